@@ -1,0 +1,85 @@
+-- Rows of any width: a row lies within the bytes, what a search by entity has found so far, and entities that do not repeat.
+use Prim.Native.Nat.{ℕ, _+_, _*_, _≤_, _<_}
+use mathlib.Core.Path.{_≡_, refl, sym}
+use mathlib.Core.List.{List}
+use mathlib.Core.Bool.{false, true≢false}
+use mathlib.Core.Option.{Option, none, some}
+use native.Mathlib.Nat.{mul-le-mul-left, mul-div-le, mul-suc, le-antisymm}
+use native.Mathlib.Omega.{arith}
+use borrow.Author.Tests.{ne-eqb, eq-eqb, eqb-true, eqb-false}
+use borrow.Author.Count.{below-more}
+use lib.ListN.{length}
+use lib.Dec.{eqb}
+use Rattle.answer.proofs.FaultLaws.{first-zero, first-more, first-stop, first-none, first-at, first-found, given-true, given-false, given-none, given-some}
+use Rattle.rows.specs.Rows.{rowsIn, entityAt, findRow, isSome, repeated, Below}
+
+-- row i of whole rows of w bytes ends within the bytes
+pub row-fits : (w : ℕ) (rows : List ℕ) (i : ℕ) → i < rowsIn w rows → w * i + w ≤ length rows
+unfolding rowsIn
+row-fits w rows i h = omega (arith, mul-le-mul-left w h, mul-div-le (length rows) w, mul-suc w i)
+
+-- the next turn of a search, its end at a row, and its end without one
+module _ (w : ℕ) (rows : List ℕ) (e i : ℕ) (sofar : findRow w rows i e ≡ none) where
+  pub find-more : (entityAt w rows i ≡ e → ⊥) → findRow w rows (i + 1) e ≡ none
+  unfolding findRow
+  find-more h = first-more _ i sofar (given-false _ _ (ne-eqb (entityAt w rows i) e h))
+
+  pub find-here : (n : ℕ) → i < n → entityAt w rows i ≡ e → some i ≡ findRow w rows n e
+  unfolding findRow
+  find-here n l h = sym (first-stop _ n i i l sofar (given-true _ _ (eq-eqb (entityAt w rows i) e h)))
+
+  pub find-end : (n : ℕ) → i ≤ n → n ≤ i → none ≡ findRow w rows n e
+  find-end n l m = rw (le-antisymm l m) at (sym sofar)
+
+pub find-zero : (w : ℕ) (rows : List ℕ) (e : ℕ) → findRow w rows 0 e ≡ none
+unfolding findRow
+find-zero w rows e = first-zero _
+
+-- nothing is found exactly where no row names the entity
+pub not-named : (w : ℕ) (rows : List ℕ) (n e : ℕ) → ((j : ℕ) → j < n → entityAt w rows j ≡ e → ⊥) → findRow w rows n e ≡ none
+unfolding findRow
+not-named w rows n e h = first-none _ n (λ j l. given-false _ _ (ne-eqb (entityAt w rows j) e (h j l)))
+
+pub none-named : (w : ℕ) (rows : List ℕ) (n e : ℕ) → findRow w rows n e ≡ none → (j : ℕ) → j < n → entityAt w rows j ≡ e → ⊥
+unfolding findRow
+none-named w rows n e p j l = eqb-false (entityAt w rows j) e (given-none _ _ (first-at _ n j p l))
+
+-- what was found is the first row that names the entity
+found : (w : ℕ) (rows : List ℕ) (n e i : ℕ) → findRow w rows n e ≡ some i → (i < n) × (entityAt w rows i ≡ e) × (findRow w rows i e ≡ none)
+unfolding findRow
+found w rows n e i p =
+    first-found _ n i p
+    (λ j l q r. let h = given-some (eqb (entityAt w rows j) e) j i r in
+    rw (← h .1) (l, eqb-true _ _ (h .0), q))
+
+pub found-in : (w : ℕ) (rows : List ℕ) (n e i : ℕ) → findRow w rows n e ≡ some i → (i < n) × (entityAt w rows i ≡ e)
+found-in w rows n e i p = (found w rows n e i p .0, found w rows n e i p .1)
+
+pub found-first : (w : ℕ) (rows : List ℕ) (n e i : ℕ) → findRow w rows n e ≡ some i → findRow w rows i e ≡ none
+found-first w rows n e i p = found w rows n e i p .2
+
+-- an entity that a bound rules out is not found
+pub not-found : (w : ℕ) (rows : List ℕ) (n top e : ℕ) → Below w rows n top → top ≤ e → findRow w rows n e ≡ none
+not-found w rows n top e h l = not-named w rows n e (λ j k q. omega (arith, h j k))
+
+-- a bound on one entity more
+pub below-next : (w : ℕ) (rows : List ℕ) (i top next : ℕ) → Below w rows i top → top ≤ next → entityAt w rows i < next → Below w rows (i + 1) next
+below-next w rows i top next h l m = below-more (λ (j : ℕ). entityAt w rows j < next) i (λ j k. omega (arith, h j k)) m
+
+-- ---- entities that do not repeat
+pub new-entity : (w : ℕ) (rows : List ℕ) (i : ℕ) → repeated w rows i ≡ false → findRow w rows i (entityAt w rows i) ≡ none
+unfolding repeated
+new-entity w rows i p = go (findRow w rows i (entityAt w rows i)) p
+  where
+    go : (o : Option ℕ) → isSome o ≡ false → o ≡ none
+    go none q = refl
+    go (some j) q = absurd (true≢false q)
+
+module _ (w : ℕ) (rows : List ℕ) (n : ℕ) (new : (i : ℕ) → i < n → repeated w rows i ≡ false) where
+  -- no two rows name one entity
+  pub no-repeats : (i j : ℕ) → i < j → j < n → entityAt w rows i ≡ entityAt w rows j → ⊥
+  no-repeats i j l m = none-named w rows j _ (new-entity w rows j (new j m)) i l
+
+  -- the search for a row's entity finds the row
+  pub find-own : (i : ℕ) → i < n → some i ≡ findRow w rows n (entityAt w rows i)
+  find-own i l = find-here w rows _ i (new-entity w rows i (new i l)) n l refl

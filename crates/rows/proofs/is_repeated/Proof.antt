@@ -1,0 +1,48 @@
+-- `is_repeated` tells whether an earlier row names the entity: none does where the bound rules it out, and else the search tells.
+use mathlib.Core.Path.{sym, ap}
+use native.Mathlib.Omega.{arith}
+use borrow.Author.Needs.{needs}
+use Rattle.rows.specs.Rows.{repeated, isSome}
+use Rattle.rows.proofs.RowLaws.{not-found}
+use Rattle.rows.proofs.is_repeated.Statement.{statement}
+use Rattle.rows.proofs.is_repeated.Tie as tie
+
+field-requires : tie.Need-field-requires
+field-requires c κs = search needs
+
+cast-if1 : tie.Need-cast-if1
+cast-if1 c = search needs
+
+returns : tie.Need-returns
+unfolding repeated
+returns c = sym (ap isSome (not-found _ _ _ _ _ (c .before .before .before .pre .2) (omega arith)))
+
+find-row-requires : tie.Need-find-row-requires
+find-row-requires c κs = search needs
+
+enum-told : tie.Need-enum-told
+enum-told c = search needs
+
+enum-told-2 : tie.Need-enum-told-2
+enum-told-2 c = search needs
+
+returns-2 : tie.Need-returns-2
+unfolding repeated
+returns-2 c = simp (← c .before .before .before .before .field .ensures, ← c .before .before .find-row .ensures, c .enum-told .given .1)
+
+returns-3 : tie.Need-returns-3
+unfolding repeated
+returns-3 c = simp (← c .before .before .before .before .field .ensures, ← c .before .before .find-row .ensures, c .enum-told2 .given .1)
+
+pub is-repeated-spec : {M : Type 1} → statement M
+is-repeated-spec =
+    tie.close
+    (tie.spec
+    field-requires
+    cast-if1
+    returns
+    find-row-requires
+    enum-told
+    enum-told-2
+    returns-2
+    returns-3)
