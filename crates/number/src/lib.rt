@@ -35,6 +35,14 @@ impl Utility {
         UtilityResult::Finite(Utility(f64::from_bits(bits)))
     }
 
+    // The payoff of a number that is known to be finite.
+    pub fn of_finite(value: f64) -> Utility
+        requires { ⌜ T (isFinite (meaning value)) ⌝ }
+        ensures { λ r. ⌜ utility r ≡ meaning value ⌝ }
+    {
+        Utility(value)
+    }
+
     pub fn value(self) -> f64
         ensures { λ r. ⌜ meaning r ≡ utility self ⌝ }
     {

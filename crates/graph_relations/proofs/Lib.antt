@@ -1,0 +1,3 @@
+-- Laws of lookups by section, and of children and transitions.
+pub mod Lookup
+pub mod RelationLaws

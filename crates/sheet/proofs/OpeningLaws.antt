@@ -1,0 +1,46 @@
+-- What opening a sheet answers: its game where it has no fault, and its fault otherwise.
+use Prim.Native.Nat.{ℕ}
+use mathlib.Core.Path.{_≡_, refl, sym, ap, _∙_}
+use mathlib.Core.List.{List}
+use mathlib.Core.Option.{none, some}
+use Rattle.answer.specs.declared.Refusal.{Refusal}
+use Rattle.answer.specs.declared.Check.{Check}
+use Rattle.answer.specs.declared.Check.the-variants.{Passed, Refused}
+use Rattle.answer.specs.Fault.{Fault}
+use Rattle.answer.specs.Answer.{refused, done, unless}
+use Rattle.answer.proofs.AnswerLaws.{refused-not-done, done-injective}
+use Rattle.layout.specs.Layout.{layoutFault}
+use Rattle.opening.specs.SheetFault.{sheetFault}
+use Rattle.opening.proofs.AcceptedRows.{layout-ok}
+use Rattle.game.specs.Game.{Game}
+use Rattle.sheet.specs.Meaning.{gameOf, opening, opened, Opens}
+
+-- a sheet that opens has no layout fault
+pub opens-layout : (s : List ℕ) → Opens s → layoutFault s ≡ none
+opens-layout s ok = layout-ok s ok
+
+module _ (s : List ℕ) where
+  pub opening-done : Opens s → opening s ≡ done (gameOf s)
+  unfolding opening
+  opening-done ok = rw ok
+
+  pub opening-refused : (r : Refusal) → sheetFault s ≡ some r → opening s ≡ refused r
+  unfolding opening
+  opening-refused r e = rw e
+
+  -- bytes that have a game open, and the game is the one read off them
+  pub done-opens : {P : Type 0} (g : Game) → opening s ≡ done g → (Opens s → g ≡ gameOf s → P) → P
+  unfolding opening
+  done-opens {P} g e next = go (sheetFault s) refl e
+    where
+      go : (f : Fault) → sheetFault s ≡ f → unless f (done (gameOf s)) ≡ done g → P
+      go none p q = next p (sym (done-injective q))
+      go (some r) p q = absurd (refused-not-done q)
+
+  -- what a check that `open` answered says
+  module _ (v : Check) (e : opened s v ≡ opening s) where
+    pub passed-opens : v ≡ Passed → Opens s
+    passed-opens p = done-opens (gameOf s) (sym e ∙ ap (opened s) p) (λ ok h. ok)
+
+    pub refused-opening : (r : Refusal) → v ≡ Refused r → opening s ≡ refused r
+    refused-opening r p = sym e ∙ ap (opened s) p
