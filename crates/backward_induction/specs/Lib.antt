@@ -1,0 +1,5 @@
+-- Backward induction: the solve, and what is promised of it.
+pub mod Solve
+pub mod Plans
+pub mod Call
+pub mod Demand3
