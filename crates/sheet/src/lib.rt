@@ -70,7 +70,7 @@ fn kind_from(kind: u32, player: u32) -> Kind
 }
 
 // Node row i.
-fn node_row(sheet: &[u8], i: usize) -> Node
+pub fn node_row(sheet: &[u8], i: usize) -> Node
     requires { ⌜ Opens (now sheet) × (i < rowCount (now sheet) 0) ⌝ }
     ensures { λ r. ⌜ r ≡ nodeRow (now (sheet .entry)) i ⌝ }
 {

@@ -1,0 +1,124 @@
+-- Entering a node: no depth left, no such node, an answer that is known, a terminal, and the edges of a decision or a chance node before any target is solved.
+use mathlib.Core.Path.{_≡_, refl, sym, ap, _∙_}
+use mathlib.Core.Bool.{Bool, true, false, _&&_}
+use mathlib.Core.List.{List, [], _∷_}
+use mathlib.Core.Option.{Option, none, some}
+use Prim.Native.Nat.{ℕ, zero, suc, _-_, _<_, _≤_}
+use native.Mathlib.Omega.{arith}
+use borrow.Author.Tests.{ltb-true, leb-true}
+use lib.ListN.{getD}
+use lib.Dec.{ltb, leb}
+use Rattle.answer.specs.declared.Refusal.{Refusal}
+use Rattle.answer.specs.declared.Check.{Check}
+use Rattle.answer.specs.declared.Check.the-variants as C
+use Rattle.answer.specs.Fault.{Fault, faultOf}
+use Rattle.answer.specs.Refusals.{depthSpent, missingNode, unsupportedChanceNode}
+use Rattle.answer.specs.Answer.{Answer, refused, done, _>>=_, faultIn}
+use Rattle.rows.specs.Rows.{findRow, foundAt}
+use Rattle.rows.specs.declared.Found.{Found}
+use Rattle.rows.specs.declared.Found.the-variants.{At, Nothing}
+use Rattle.rows.proofs.RowLaws.{found-in}
+use Rattle.layout.specs.Layout.{width, section, rowCount, field}
+use Rattle.graph_relations.proofs.Lookup.{row-found, lookup-found, lookup-missing}
+use Rattle.game.specs.declared.Kind.the-variants as Kinds
+use Rattle.game.specs.declared.Node.{Node}
+use Rattle.game.specs.Game.{kindOf, kindIn, nodeOf}
+use Rattle.game.specs.Edges.{outgoingActionEdges, outgoingChanceOutcomes}
+use Rattle.sheet.specs.Meaning.{nodeRow, gameOf}
+use Rattle.sheet.proofs.ChildWalk.{actions-walk, chances-walk}
+use Rattle.backward_induction.specs.declared.Method.{Method}
+use Rattle.backward_induction.specs.declared.Method.the-variants as Methods
+use Rattle.backward_induction.specs.Solve.{taken, inRange, atKind, step, solve}
+use Rattle.backward_induction.proofs.SolveLaws.{solve-zero, solve-suc, step-missing, step-action-fault, step-decision, step-plain, step-chance-fault, step-chance, bestOf-from, sumsOf-from}
+use Rattle.memo.specs.Memo.{Rows, entry, height, known, Memo}
+use Rattle.memo.specs.Visits.{SolvedIn}
+use Rattle.memo.specs.declared.Visit.the-variants.{Solved, Refused}
+use Rattle.turns.specs.declared.Best.the-variants as B
+use Rattle.turns.specs.Sums.{Holds}
+use Rattle.solver.specs.declared.Entered.the-variants as E
+use Rattle.solver.specs.Solving.{NodeAt, ended, Deciding, Weighing, ToWeigh, EnteredAs}
+
+-- ---- the node's row
+module _ (s : List ℕ) (e : ℕ) (f : Found) (found : foundAt f ≡ findRow (width s 0) (section s 0) (rowCount s 0) e) where
+  pub node-at : (row : ℕ) → f ≡ At row → NodeAt s row e
+  unfolding field
+  node-at row p = record { here = row-found s 0 e f found row p; entity = found-in (width s 0) (section s 0) (rowCount s 0) e row (sym found ∙ ap foundAt p) .1 }
+
+  pub node-kind : (row : ℕ) → f ≡ At row → kindOf (gameOf s) e ≡ some (nodeRow s row .kind)
+  unfolding kindOf nodeOf gameOf nodeRow
+  node-kind row p = ap kindIn (lookup-found s 0 e f found (nodeRow s) (λ (n : Node). n .entity) (λ i. refl) row p)
+
+  pub node-missing : f ≡ Nothing → kindOf (gameOf s) e ≡ none
+  unfolding kindOf nodeOf gameOf nodeRow
+  node-missing p = ap kindIn (lookup-missing s 0 e f found (nodeRow s) (λ (n : Node). n .entity) (λ i. refl) p)
+
+-- ---- the solve with some depth left
+module _ (method : Method) (s : List ℕ) (e : ℕ) where
+  pub no-depth : (left : ℕ) → left ≡ 0 → solve method (gameOf s) left e ≡ refused (depthSpent e)
+  no-depth left h = rw h (solve-zero method (gameOf s) e)
+
+  solve-left : (left : ℕ) → 0 < left → solve method (gameOf s) left e ≡ step method (gameOf s) (solve method (gameOf s) (left - 1)) e
+  solve-left left h = let z : left ≡ suc (left - 1) = omega arith in ap (λ k. solve method (gameOf s) k e) z ∙ solve-suc method (gameOf s) (left - 1) e
+
+  pub no-node : (left : ℕ) → 0 < left → kindOf (gameOf s) e ≡ none → solve method (gameOf s) left e ≡ refused (missingNode e)
+  no-node left h k = solve-left left h ∙ step-missing method (gameOf s) _ e k
+
+  pub at-terminal : kindOf (gameOf s) e ≡ some Kinds.Terminal → (left : ℕ) → 1 ≤ left → solve method (gameOf s) left e ≡ ended (gameOf s) e
+  unfolding step atKind
+  at-terminal k left h = solve-left left h ∙ rw k
+
+-- an answer that is known
+both-true : (a b : Bool) → (a && b) ≡ true → (a ≡ true) × (b ≡ true)
+both-true true b h = (refl, h)
+both-true false b h = let z : _≡_ {A = ℕ} 0 1 = cc in absurd (omega arith)
+
+pub known-visited : {s : List ℕ} {m : Rows} {left e row : ℕ} → NodeAt s row e → known (entry m row .head) left ≡ true → SolvedIn s m left e row
+known-visited {m = m} {left = left} {row = row} n h =
+    let (some-height, near) = both-true (ltb 0 (height (entry m row))) (leb (height (entry m row)) left) h in
+    record { filled = record { row = n .here; solved = ltb-true 0 (height (entry m row)) some-height }; entity = n .entity; near = leb-true (height (entry m row)) left near }
+
+-- ---- faults
+fault-refused : {A : Type 0} (a : Answer A) (r : Refusal) → some r ≡ faultIn a → a ≡ refused r
+fault-refused (refused x) r h = cc
+fault-refused (done x) r h = let z : _≡_ {A = ℕ} 0 1 = cc in absurd (omega arith)
+
+no-fault : {A P : Type 0} (a : Answer A) → none ≡ faultIn a → ((x : A) → a ≡ done x → P) → P
+no-fault (refused x) h next = let z : _≡_ {A = ℕ} 0 1 = cc in absurd (omega arith)
+no-fault (done x) h next = next x refl
+
+-- ---- a decision
+module _ (method : Method) {s : List ℕ} {row e p : ℕ} (node : NodeAt s row e) (kind : kindOf (gameOf s) e ≡ some (Kinds.Decision p)) (m : Rows) (left : ℕ) (some-depth : 0 < left) where
+  pub decision-refused : (r : Refusal) → some r ≡ faultIn (outgoingActionEdges (gameOf s) e) → solve method (gameOf s) left e ≡ refused r
+  decision-refused r h = solve-left method s e left some-depth ∙ step-action-fault method (gameOf s) _ e p kind r (fault-refused _ r h)
+
+  pub decision-starts : none ≡ faultIn (outgoingActionEdges (gameOf s) e) → EnteredAs method s m left e (E.Decision row p)
+  decision-starts h =
+      no-fault (outgoingActionEdges (gameOf s) e) h λ xs q.
+      (some-depth, node, record {
+        kept = tt;
+        edges = xs;
+        left = sym (actions-walk s e (rowCount s 1) refl) ∙ q;
+        right = λ k _. solve-suc method (gameOf s) k e ∙ step-decision method (gameOf s) (solve method (gameOf s) k) e p kind xs q
+            ∙ ap (λ a. a >>= λ r. done (taken r)) (bestOf-from (solve method (gameOf s) k) p e xs);
+      })
+
+-- ---- a chance node
+module _ (method : Method) {s : List ℕ} {row e : ℕ} (node : NodeAt s row e) (kind : kindOf (gameOf s) e ≡ some Kinds.Chance) (m : Rows) (left : ℕ) (some-depth : 0 < left) where
+  pub chance-plain : method ≡ Methods.Plain → solve method (gameOf s) left e ≡ refused (unsupportedChanceNode e)
+  chance-plain h = solve-left method s e left some-depth ∙ step-plain method (gameOf s) _ e kind h
+
+  module _ (weighted : method ≡ Methods.ChanceWeighted) where
+    pub chance-refused : (r : Refusal) → some r ≡ faultIn (outgoingChanceOutcomes (gameOf s) e) → solve method (gameOf s) left e ≡ refused r
+    chance-refused r h = solve-left method s e left some-depth ∙ step-chance-fault method (gameOf s) _ e kind weighted r (fault-refused _ r h)
+
+    pub chance-starts : none ≡ faultIn (outgoingChanceOutcomes (gameOf s) e) → EnteredAs method s m left e (E.Chance row)
+    chance-starts h =
+        no-fault (outgoingChanceOutcomes (gameOf s) e) h λ os q.
+        (some-depth, node, λ w held. record {
+          sums = none;
+          held = held;
+          outcomes = os;
+          left = sym (chances-walk s e (rowCount s 1) refl) ∙ q;
+          right = λ k _. solve-suc method (gameOf s) k e ∙ step-chance method (gameOf s) (solve method (gameOf s) k) e kind weighted os q
+              ∙ ap (λ a. a >>= λ vs. inRange e vs >>= λ ws. done (record { terminal = none; actions = []; payoffs = ws })) (sumsOf-from (solve method (gameOf s) k) e os);
+        })

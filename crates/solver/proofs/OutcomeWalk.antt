@@ -1,0 +1,99 @@
+-- The walk along the child rows of a chance node: a row that is no outcome, an outcome whose target is refused, one that stops or goes on with the sums, and the end.
+use mathlib.Core.Path.{_≡_, refl, sym, ap, _∙_}
+use mathlib.Core.List.{List, [], _∷_}
+use mathlib.Core.Option.{Option, none, some}
+use Prim.Native.Nat.{ℕ, suc, _+_, _<_, _≤_, max}
+use native.Mathlib.Omega.{arith}
+use Rattle.number.specs.Number.{Number}
+use Rattle.answer.specs.declared.Refusal.{Refusal}
+use Rattle.answer.specs.Fault.{faultOf}
+use Rattle.answer.specs.Answer.{Answer, refused, done, _>>=_}
+use Rattle.layout.specs.Layout.{rowCount}
+use Rattle.graph_relations.specs.RelationRows.{childRow}
+use Rattle.game.specs.Game.{Chance}
+use Rattle.game.specs.Edges.{chanceOutcomeIn}
+use Rattle.game.proofs.Walk.{collectFrom, left-skip, left-keep, left-end}
+use Rattle.sheet.specs.Meaning.{gameOf}
+use Rattle.backward_induction.specs.declared.Method.{Method}
+use Rattle.backward_induction.specs.Solve.{Solution, Solver, inRange, solve}
+use Rattle.backward_induction.proofs.SolveLaws.{addedTo, sumsFrom, sumsFrom-cons, sumsFrom-stop}
+use Rattle.memo.specs.Memo.{Rows, entry, height, solutionOf, payoffsOf, Memo}
+use Rattle.memo.specs.Visits.{Visits}
+use Rattle.memo.specs.declared.Visit.the-variants.{Solved}
+use Rattle.turns.specs.declared.Sums.{Sums}
+use Rattle.turns.specs.declared.SumsTurn.{SumsTurn}
+use Rattle.turns.specs.Sums.{Holds, TurnIs, weighedUp}
+use Rattle.solver.specs.Solving.{Weighing}
+use Rattle.solver.proofs.ReplyWalk.{solved-target}
+
+-- the solution of a chance node with these sums
+abbrev summed : ℕ → Answer (List Number) → Answer Solution
+summed e a = a >>= λ vs. inRange e vs >>= λ ws. done (record { terminal = none; actions = []; payoffs = ws })
+
+-- ---- what a turn says
+turn-refused : (t : SumsTurn) (a : Answer (List Number)) (r : Refusal) → TurnIs t a → faultOf (t .fault) ≡ some r → a ≡ refused r
+turn-refused t (refused x) r h q = cc
+turn-refused t (done more) r h q = let u = h .0 in let z : _≡_ {A = ℕ} 0 1 = cc in absurd (omega arith)
+
+turn-done : {P : Type 0} (t : SumsTurn) (a : Answer (List Number)) → TurnIs t a → faultOf (t .fault) ≡ none → ((more : List Number) → a ≡ done more → Holds (t .sums) (some more) → P) → P
+turn-done t (refused x) h q next = let z : _≡_ {A = ℕ} 0 1 = cc in absurd (omega arith)
+turn-done t (done more) h q next = next more refl (h .1)
+
+-- one outcome with the answer of its target
+sums-turn : (f : Solver) (e : ℕ) (sums : Option (List Number)) (o : Chance) (os : List Chance) (x : Solution) → f (o .target) ≡ done x
+    → sumsFrom f e sums (o ∷ os) ≡ (addedTo e sums (o .probability) (x .payoffs) >>= λ more. sumsFrom f e (some more) os)
+sums-turn f e sums o os x h = sumsFrom-cons f e sums o os ∙ rw h
+
+module _ {method : Method} {s : List ℕ} {e i deepest : ℕ} {w : Sums} (walk : Weighing method s e i deepest w) where
+  -- ---- the end
+  pub all-outcomes : rowCount s 1 ≤ i → (k : ℕ) → deepest ≤ k → solve method (gameOf s) (suc k) e ≡ weighedUp e (walk .sums)
+  unfolding sumsFrom
+  all-outcomes end k h =
+      let e0 = left-end (chanceOutcomeIn (gameOf s) e) (childRow s) (rowCount s 1) i (walk .outcomes) (walk .left) end in
+      walk .right k h ∙ ap (λ os. summed e (sumsFrom (solve method (gameOf s) k) e (walk .sums) os)) e0
+
+  module _ (row : i < rowCount s 1) where
+    pub row-skips : chanceOutcomeIn (gameOf s) e (childRow s i) ≡ done none → Weighing method s e (i + 1) deepest w
+    row-skips q = record {
+      sums = walk .sums;
+      held = walk .held;
+      outcomes = walk .outcomes;
+      left = left-skip (chanceOutcomeIn (gameOf s) e) (childRow s) (rowCount s 1) i (walk .outcomes) (walk .left) row q;
+      right = walk .right;
+    }
+
+    module _ {o : Chance} (outcome : chanceOutcomeIn (gameOf s) e (childRow s i) ≡ done (some o)) where
+      next-outcome : {P : Type 0} → ((os : List Chance) → collectFrom (chanceOutcomeIn (gameOf s) e) (childRow s) (rowCount s 1) (i + 1) ≡ done os
+          → ((k : ℕ) → deepest ≤ k → solve method (gameOf s) (suc k) e ≡ summed e (sumsFrom (solve method (gameOf s) k) e (walk .sums) (o ∷ os))) → P) → P
+      next-outcome next =
+          left-keep (chanceOutcomeIn (gameOf s) e) (childRow s) (rowCount s 1) i (walk .outcomes) (walk .left) o row outcome
+          λ os q l. next os l λ k h. walk .right k h ∙ ap (λ ys. summed e (sumsFrom (solve method (gameOf s) k) e (walk .sums) ys)) q
+
+      pub target-refused : {k : ℕ} {r : Refusal} → deepest ≤ k → solve method (gameOf s) k (o .target) ≡ refused r → solve method (gameOf s) (suc k) e ≡ refused r
+      target-refused {k} {r} h q = next-outcome λ os l right. right k h ∙ ap (summed e) (sumsFrom-stop (solve method (gameOf s) k) e (walk .sums) o os r q)
+
+      -- ---- the target's answer is in a row of the memo
+      module _ {m m′ : Rows} {left at : ℕ} (visit : Visits method s m m′ left (o .target) (Solved at)) {turn : SumsTurn}
+        (turned : (sums : Option (List Number)) → Holds w sums → TurnIs turn (addedTo e sums (o .probability) (payoffsOf (entry m′ at .head) (entry m′ at .payoffs)))) where
+        sums-go : (os : List Chance) (a : Answer (List Number)) → addedTo e (walk .sums) (o .probability) (payoffsOf (entry m′ at .head) (entry m′ at .payoffs)) ≡ a → (k : ℕ) → height (entry m′ at) ≤ k
+            → summed e (sumsFrom (solve method (gameOf s) k) e (walk .sums) (o ∷ os)) ≡ summed e (a >>= λ more. sumsFrom (solve method (gameOf s) k) e (some more) os)
+        unfolding solutionOf
+        sums-go os a q k h =
+            ap (summed e) (sums-turn (solve method (gameOf s) k) e (walk .sums) o os (solutionOf (entry m′ at)) (solved-target (visit .memo) (visit .visited) k h)
+            ∙ ap (λ b. b >>= λ more. sumsFrom (solve method (gameOf s) k) e (some more) os) q)
+
+        pub outcome-stops : {r : Refusal} {k : ℕ} → faultOf (turn .fault) ≡ some r → deepest ≤ k → left ≤ k → solve method (gameOf s) (suc k) e ≡ refused r
+        outcome-stops {r} {k} f h l =
+            let near = visit .visited .near in
+            next-outcome λ os _ right. right k h ∙ sums-go os (refused r) (turn-refused turn _ r (turned (walk .sums) (walk .held)) f) k (omega arith)
+
+        pub outcome-goes : {depth : ℕ} → faultOf (turn .fault) ≡ none → depth ≡ max deepest (height (entry m′ at)) → Weighing method s e (i + 1) depth (turn .sums)
+        outcome-goes {depth} f d =
+            turn-done turn _ (turned (walk .sums) (walk .held)) f λ more q held.
+            next-outcome λ os l right. record {
+              sums = some more;
+              held = held;
+              outcomes = os;
+              left = l;
+              right = λ k h. right k (omega arith) ∙ sums-go os (done more) q k (omega arith);
+            }

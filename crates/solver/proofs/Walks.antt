@@ -1,0 +1,119 @@
+-- What both walks along a node's child rows keep: the memo is right and has only grown, and the depth that the answers need is below what is left.
+use mathlib.Core.Path.{_≡_, refl, ap, _∙_, subst}
+use mathlib.Core.List.{List}
+use Prim.Native.Nat.{ℕ, zero, suc, _+_, _-_, _<_, _≤_, max}
+use native.Mathlib.Omega.{arith}
+use lib.ListN.{length}
+use Rattle.answer.specs.declared.Refusal.{Refusal}
+use Rattle.answer.specs.Answer.{Answer, refused}
+use Rattle.layout.specs.Layout.{rowCount}
+use Rattle.layout.proofs.LayoutLaws.{rows-bound}
+use Rattle.sheet.specs.Meaning.{gameOf, Opens}
+use Rattle.sheet.proofs.OpeningLaws.{opens-layout}
+use Rattle.backward_induction.specs.declared.Method.{Method}
+use Rattle.backward_induction.specs.Solve.{Solution, solve}
+use Rattle.memo.specs.declared.Visit.{Visit}
+use Rattle.memo.specs.declared.Visit.the-variants.{Solved, Refused}
+use Rattle.memo.specs.Memo.{Rows, entry, height, PayoffRoom, Within, Memo, Extends}
+use Rattle.memo.specs.Visits.{SolvedIn, Visits, KeptAs}
+use Rattle.memo.proofs.VisitLaws.{kept-visits}
+use Rattle.solver.specs.Solving.{NodeAt, EnteredAs, Enters}
+use Rattle.solver.specs.declared.Entered.{Entered}
+
+-- the lists are as long as they were
+pub record AsLong (m m′ : Rows) : Type 0 where
+  pub heads : length (m′ .heads) ≡ length (m .heads)
+  pub labels : length (m′ .labels) ≡ length (m .labels)
+  pub payoffs : length (m′ .payoffs) ≡ length (m .payoffs)
+
+-- n child rows, those before i dealt with; m₀ is the memo where the walk began
+pub record Walk (method : Method) (s : List ℕ) (m₀ m : Rows) (row e left n i deepest : ℕ) : Type 0 where
+  pub opens : Opens s
+  pub low : left ≤ 64
+  pub node : NodeAt s row e
+  pub rows : n ≡ rowCount s 1
+  pub few : n ≤ 4096
+  pub here : i ≤ n
+  pub deep : deepest < left
+  pub memo : Memo method s m
+  pub extends : Extends m₀ m
+  pub as-long : AsLong m₀ m
+
+pub walk-starts : {method : Method} {s : List ℕ} {m : Rows} {row e left n : ℕ} → Opens s → left ≤ 64 → 0 < left → Memo method s m → NodeAt s row e → n ≡ rowCount s 1 → Walk method s m m row e left n 0 0
+walk-starts {s = s} opens low some-depth memo node rows =
+    let few = rows-bound s (opens-layout s opens) 1 (omega arith) in
+    record {
+      opens = opens;
+      low = low;
+      node = node;
+      rows = rows;
+      few = omega arith;
+      here = omega arith;
+      deep = some-depth;
+      memo = memo;
+      extends = λ i h. h;
+      as-long = record { heads = refl; labels = refl; payoffs = refl };
+    }
+
+pub visits-after : {method : Method} {s : List ℕ} {m m₁ m′ : Rows} {left e : ℕ} {v : Visit} → Extends m m₁ → Visits method s m₁ m′ left e v → Visits method s m m′ left e v
+visits-after ext v = record { memo = v .memo; extends = λ i h. v .extends i (ext i h); visited = v .visited }
+
+-- a row that was visited
+module _ {method : Method} {s : List ℕ} {m m′ : Rows} {left e at : ℕ} (visit : Visits method s m m′ left e (Solved at)) where
+  pub at-within : Within m′ at
+  at-within = visit .memo .within at (visit .visited .filled .row)
+
+  pub at-room : PayoffRoom (entry m′ at .head) (entry m′ at .payoffs)
+  at-room = visit .memo .right at (visit .visited .filled) .sized .payoff-room
+
+module _ {method : Method} {s : List ℕ} {m₀ m : Rows} {row e left n i deepest : ℕ} (walk : Walk method s m₀ m row e left n i deepest) where
+  pub walk-skips : i < n → Walk method s m₀ m row e left n (i + 1) deepest
+  walk-skips h = record {
+    opens = walk .opens;
+    low = walk .low;
+    node = walk .node;
+    rows = walk .rows;
+    few = walk .few;
+    here = omega arith;
+    deep = walk .deep;
+    memo = walk .memo;
+    extends = walk .extends;
+    as-long = walk .as-long;
+  }
+
+  module _ {m′ : Rows} {less target : ℕ} {v : Visit} (visit : Visits method s m m′ less target v) where
+    pub walk-refused : {r : Refusal} → solve method (gameOf s) left e ≡ refused r → Visits method s m₀ m′ left e (Refused r)
+    walk-refused h = record { memo = visit .memo; extends = λ j k. visit .extends j (walk .extends j k); visited = h }
+
+  pub longer : {m′ : Rows} → AsLong m m′ → AsLong m₀ m′
+  longer l = record { heads = l .heads ∙ walk .as-long .heads; labels = l .labels ∙ walk .as-long .labels; payoffs = l .payoffs ∙ walk .as-long .payoffs }
+
+  pub walk-goes : {m′ : Rows} {less target at depth : ℕ} → less < left → i < n → Visits method s m m′ less target (Solved at) → AsLong m m′ → depth ≡ max deepest (height (entry m′ at)) → Walk method s m₀ m′ row e left n (i + 1) depth
+  walk-goes less h visit long d =
+      let near = visit .visited .near in
+      let deep = walk .deep in
+      record {
+        opens = walk .opens;
+        low = walk .low;
+        node = walk .node;
+        rows = walk .rows;
+        few = walk .few;
+        here = omega arith;
+        deep = omega arith;
+        memo = visit .memo;
+        extends = λ j k. visit .extends j (walk .extends j k);
+        as-long = longer long;
+      }
+
+  -- the end: the node's answer is kept
+  pub walk-kept : {m′ : Rows} {v : Visit} (a : Answer Solution) → KeptAs m m′ row (deepest + 1) a v → ((k : ℕ) → deepest ≤ k → solve method (gameOf s) (suc k) e ≡ a) → Visits method s m₀ m′ left e v
+  walk-kept a kept right =
+      let deep = walk .deep in
+      let near : deepest + 1 ≤ left = omega arith in
+      let positive : 0 < deepest + 1 = omega arith in
+      visits-after (walk .extends) (kept-visits (walk .memo) (walk .node .here) (walk .node .entity) near positive a kept
+      (λ k h. let z : k ≡ suc (k - 1) = omega arith in ap (λ j. solve method (gameOf s) j e) z ∙ right (k - 1) (omega arith)))
+
+-- a node that was entered, told apart
+pub entered-as : {method : Method} {s : List ℕ} {m m′ : Rows} {left e : ℕ} {r w : Entered} → r ≡ w → Enters method s m m′ left e r → EnteredAs method s m′ left e w
+entered-as {method} {s} {m} {m′} {left} {e} q enters = subst (EnteredAs method s m′ left e) q (enters .entered)

@@ -1,0 +1,3 @@
+-- What the solver's code answers, and what it knows of a node that it is solving.
+pub mod Held
+pub mod Solving

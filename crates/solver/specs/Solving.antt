@@ -1,0 +1,75 @@
+-- What is known of a node that is being solved: which of its child rows are left, and what is held of those before. Definitions only.
+use Prim.Native.Nat.{ℕ, suc, _<_, _≤_}
+use mathlib.Core.Path.{_≡_}
+use mathlib.Core.List.{List, []}
+use mathlib.Core.Option.{Option, none, some}
+use Rattle.number.specs.Number.{Number}
+use Rattle.answer.specs.Answer.{Answer, done, _>>=_, orRefuse}
+use Rattle.answer.specs.Refusals.{missingTerminalUtility}
+use Rattle.layout.specs.Layout.{rowCount, field}
+use Rattle.graph_relations.specs.RelationRows.{childRow}
+use Rattle.game.specs.declared.ActionEdge.{ActionEdge}
+use Rattle.game.specs.Game.{Game, Chance, terminalOf}
+use Rattle.game.specs.Edges.{actionEdgeIn, chanceOutcomeIn}
+use Rattle.game.proofs.Walk.{collectFrom}
+use Rattle.sheet.specs.Meaning.{gameOf, Opens}
+use Rattle.backward_induction.specs.declared.Method.{Method}
+use Rattle.backward_induction.specs.Solve.{Solution, taken, inRange, solve}
+use Rattle.backward_induction.proofs.SolveLaws.{bestFrom, sumsFrom}
+use Rattle.memo.specs.Memo.{Rows, Memo, Extends}
+use Rattle.memo.specs.Visits.{Visited}
+use Rattle.turns.specs.declared.Best.{Best}
+use Rattle.turns.specs.declared.Best.the-variants as B
+use Rattle.turns.specs.declared.Sums.{Sums}
+use Rattle.turns.specs.Replies.{leadIn, KeptIn}
+use Rattle.turns.specs.Sums.{Holds}
+use Rattle.solver.specs.declared.Entered.{Entered}
+use Rattle.solver.specs.declared.Entered.the-variants as E
+
+-- the node row of e
+pub record NodeAt (s : List ℕ) (row e : ℕ) : Type 0 where
+  pub here : row < rowCount s 0
+  pub entity : field s 0 row 0 ≡ e
+
+-- what a solve with so much depth left asks
+pub record Asks (method : Method) (s : List ℕ) (m : Rows) (left : ℕ) : Type 0 where
+  pub opens : Opens s
+  pub low : left ≤ 64
+  pub memo : Memo method s m
+
+-- the answer of a terminal node
+abbrev pub ended : Game → ℕ → Answer Solution
+ended g e = orRefuse (terminalOf g e) (missingTerminalUtility e) >>= λ t. done (record { terminal = some e; actions = []; payoffs = t .payoffs })
+
+-- A decision of the player p at e, of whose child rows those before i are dealt with: with any depth from `deepest` on, its answer is what the edges
+-- of the rows from i on make of the best reply so far.
+pub record Deciding (method : Method) (s : List ℕ) (m : Rows) (e p i deepest : ℕ) (best : Best) : Type 0 where
+  pub kept : KeptIn s m best
+  pub edges : List ActionEdge
+  pub left : collectFrom (actionEdgeIn (gameOf s) e) (childRow s) (rowCount s 1) i ≡ done edges
+  pub right : (k : ℕ) → deepest ≤ k → solve method (gameOf s) (suc k) e ≡ (bestFrom (solve method (gameOf s) k) e p (leadIn m best) edges >>= λ r. done (taken r))
+
+-- A chance node e, of whose child rows those before i are dealt with: the same of the sums so far.
+pub record Weighing (method : Method) (s : List ℕ) (e i deepest : ℕ) (w : Sums) : Type 0 where
+  pub sums : Option (List Number)
+  pub held : Holds w sums
+  pub outcomes : List Chance
+  pub left : collectFrom (chanceOutcomeIn (gameOf s) e) (childRow s) (rowCount s 1) i ≡ done outcomes
+  pub right : (k : ℕ) → deepest ≤ k
+      → solve method (gameOf s) (suc k) e ≡ (sumsFrom (solve method (gameOf s) k) e sums outcomes >>= λ vs. inRange e vs >>= λ ws. done (record { terminal = none; actions = []; payoffs = ws }))
+
+-- a chance node of which no child row is dealt with
+abbrev pub ToWeigh : Method → List ℕ → ℕ → Type 0
+ToWeigh method s e = (w : Sums) → Holds w none → Weighing method s e 0 0 w
+
+-- a node that is entered with so much depth left: visited, or its replies or outcomes are to be solved
+abbrev pub EnteredAs : Method → List ℕ → Rows → ℕ → ℕ → Entered → Type 0
+EnteredAs method s m left e (E.Done v) = Visited method s m left e v
+EnteredAs method s m left e (E.Decision row p) = (0 < left) × NodeAt s row e × Deciding method s m e p 0 0 B.None
+EnteredAs method s m left e (E.Chance row) = (0 < left) × NodeAt s row e × ToWeigh method s e
+
+-- entering takes the memo m to m′
+pub record Enters (method : Method) (s : List ℕ) (m m′ : Rows) (left e : ℕ) (r : Entered) : Type 0 where
+  pub memo : Memo method s m′
+  pub extends : Extends m m′
+  pub entered : EnteredAs method s m′ left e r

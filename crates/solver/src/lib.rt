@@ -1,0 +1,356 @@
+// The solve: backward induction over a sheet, with each node's answer kept so that a shared node is solved once.
+ghost use mathlib.Core.Path.{_≡_};
+ghost use mathlib.Core.Bool.{false};
+ghost use mathlib.Core.List.{_++_, map, reverse};
+ghost use mathlib.Core.Option.{some};
+ghost use Prim.Native.Nat.{ℕ, _+_, _-_, _≤_, _<_};
+ghost use lib.ListN.{take, replicate};
+ghost use Rattle.number.specs.Number.{finite};
+ghost use Rattle.number.specs.Meaning.{meaning};
+ghost use Rattle.answer.specs.declared.Refusal.{Refusal};
+ghost use Rattle.answer.specs.Answer.{refused, done};
+ghost use Rattle.answer.specs.Fault.{faultOf};
+ghost use Rattle.rows.specs.Store.{rowsFrom};
+ghost use Rattle.layout.specs.Layout.{rowCount};
+ghost use Rattle.game.specs.Game.{kindOf};
+ghost use Rattle.game.specs.declared.Kind.the-variants as Kinds;
+ghost use Rattle.sheet.specs.Meaning.{payoffRow, gameOf, Opens};
+ghost use Rattle.backward_induction.specs.Solve.{solve as solution-with};
+ghost use Rattle.backward_induction.specs.Call.{solution};
+ghost use Rattle.backward_induction.specs.declared.Method.{Method};
+ghost use Rattle.backward_induction.specs.declared.Method.the-variants.{ChanceWeighted, Plain};
+ghost use Rattle.memo.specs.Memo.{Rows, rows, entry, solutionOf, Sized, Within};
+ghost use Rattle.memo.specs.Visits.{Visits, KeptAs};
+ghost use Rattle.solver.specs.Held.{padded, held, heldFor};
+ghost use Rattle.solver.specs.Solving.{NodeAt, Asks, ended, ToWeigh, EnteredAs, Enters};
+use answer::Check;
+use backward_induction::Method;
+use edges::ActionStep;
+use edges::ChanceStep;
+use game::Kind;
+use memo::Visit;
+use rows::Found;
+use sheet::TerminalFound;
+use turns::Best;
+use turns::ReplyTurn;
+
+// Where the play of a solution ends: a terminal node, or none where it meets a chance node.
+pub enum Ending {
+    Terminal(u32),
+    Open,
+}
+
+// A refusal, or a solution: label numbers first to last, payoffs from player 0's on. What is not used is 0.
+pub struct Solved {
+    pub refusal: Check,
+    pub ending: Ending,
+    pub action_count: usize,
+    pub labels: [u32; 64],
+    pub payoff_count: usize,
+    pub payoffs: [f64; 8],
+}
+
+// A node that is entered: done with, or its replies or outcomes are to be solved.
+pub enum Entered {
+    Done(Visit),
+    Decision(usize, u32),
+    Chance(usize),
+}
+
+// The payoffs of the payoff rows from `first` on.
+fn payoffs_from(sheet: &[u8], first: usize, count: usize) -> [f64; 8]
+    requires { ⌜ Opens (now sheet) × (first + count ≤ rowCount (now sheet) 6) × (count ≤ 8) ⌝ }
+    ensures { λ r. ⌜ map meaning r ≡ rowsFrom (payoffRow (now (sheet .entry))) first count ++ replicate (8 - count) (finite false 0) ⌝ }
+{
+    let mut out = [0.0f64; 8];
+    let mut j = 0;
+    while j < count {
+        out[j] = sheet::payoff(sheet, first + j).value();
+        j += 1;
+    }
+    out
+}
+
+// A terminal node: 13, or its payoffs.
+fn solve_terminal(
+    sheet: &[u8],
+    heads: &mut [[u32; 5]],
+    labels: &mut [[u32; 64]],
+    payoffs: &mut [[f64; 8]],
+    entity: u32,
+    row: usize,
+) -> Visit
+    requires { ⌜ Opens (now sheet) × Within (rows (now heads) (now labels) (now payoffs)) row ⌝ }
+    ensures { λ v. ⌜ KeptAs (rows (now (heads .entry)) (now (labels .entry)) (now (payoffs .entry))) (rows (now (heads .exit)) (now (labels .exit)) (now (payoffs .exit))) row 1 (ended (gameOf (now (sheet .entry))) entity) v ⌝ }
+{
+    let TerminalFound::Found(t) = sheet::find_terminal(sheet, entity) else {
+        return memo::refused(13, entity as u64);
+    };
+    let count = t.count;
+    let values = payoffs_from(sheet, t.first, count);
+    let head = [1, 1, entity, 0, count as u32];
+    memo::store(heads, labels, payoffs, row, head, [0u32; 64], values);
+    Visit::Solved(row)
+}
+
+// A decision: the faults among its edges.
+fn enter_decision(sheet: &[u8], entity: u32, row: usize, player: u32) -> Entered
+    requires { ⌜ Opens (now sheet) × NodeAt (now sheet) row entity × (kindOf (gameOf (now sheet)) entity ≡ some (Kinds.Decision player)) ⌝ }
+    ensures { λ r. ⌜ ((method : Method) (m : Rows) (left : ℕ) → 0 < left → EnteredAs method (now (sheet .entry)) m left entity r) ⌝ }
+{
+    match edges::outgoing_action_edges(sheet, entity) {
+        Check::Refused(r) => Entered::Done(Visit::Refused(r)),
+        Check::Passed => Entered::Decision(row, player),
+    }
+}
+
+// A chance node: 20 where the method is plain, else the faults among its outcomes.
+fn enter_chance(sheet: &[u8], method: Method, entity: u32, row: usize) -> Entered
+    requires { ⌜ Opens (now sheet) × NodeAt (now sheet) row entity × (kindOf (gameOf (now sheet)) entity ≡ some Kinds.Chance) ⌝ }
+    ensures { λ r. ⌜ ((m : Rows) (left : ℕ) → 0 < left → EnteredAs method (now (sheet .entry)) m left entity r) ⌝ }
+{
+    if let Method::Plain = method {
+        return Entered::Done(memo::refused(20, entity as u64));
+    }
+    match edges::outgoing_chance_outcomes(sheet, entity) {
+        Check::Refused(r) => Entered::Done(Visit::Refused(r)),
+        Check::Passed => Entered::Chance(row),
+    }
+}
+
+// Enters a node with so much depth left: 24, 11, an answer that is known, then by kind as far as no target is solved.
+fn enter(
+    sheet: &[u8],
+    heads: &mut [[u32; 5]],
+    labels: &mut [[u32; 64]],
+    payoffs: &mut [[f64; 8]],
+    method: Method,
+    entity: u32,
+    left: usize,
+) -> Entered
+    requires { ⌜ Asks method (now sheet) (rows (now heads) (now labels) (now payoffs)) left ⌝ }
+    ensures { λ r. ⌜ Enters method (now (sheet .entry)) (rows (now (heads .entry)) (now (labels .entry)) (now (payoffs .entry))) (rows (now (heads .exit)) (now (labels .exit)) (now (payoffs .exit))) left entity r ⌝ }
+{
+    if left == 0 {
+        return Entered::Done(memo::refused(24, entity as u64));
+    }
+    let Found::At(row) = layout::find_row(sheet, 0, entity) else {
+        return Entered::Done(memo::refused(11, entity as u64));
+    };
+    if memo::is_known(heads, row, left) {
+        return Entered::Done(Visit::Solved(row));
+    }
+    let node = sheet::node_row(sheet, row);
+    let kind = node.kind;
+    match kind {
+        Kind::Terminal => Entered::Done(solve_terminal(sheet, heads, labels, payoffs, entity, row)),
+        Kind::Decision { player } => enter_decision(sheet, entity, row, player),
+        Kind::Chance => enter_chance(sheet, method, entity, row),
+    }
+}
+
+// A decision solves its replies.
+fn solve_node(
+    sheet: &[u8],
+    heads: &mut [[u32; 5]],
+    labels: &mut [[u32; 64]],
+    payoffs: &mut [[f64; 8]],
+    method: Method,
+    entity: u32,
+    left: usize,
+) -> Visit
+    requires { ⌜ Asks method (now sheet) (rows (now heads) (now labels) (now payoffs)) left ⌝ }
+    ensures { λ v. ⌜ Visits method (now (sheet .entry)) (rows (now (heads .entry)) (now (labels .entry)) (now (payoffs .entry))) (rows (now (heads .exit)) (now (labels .exit)) (now (payoffs .exit))) left entity v ⌝ }
+{
+    let entered = enter(sheet, heads, labels, payoffs, method, entity, left);
+    match entered {
+        Entered::Done(v) => v,
+        Entered::Chance(row) => solve_chance(
+            sheet,
+            heads,
+            labels,
+            payoffs,
+            method,
+            entity,
+            row,
+            left - 1,
+        ),
+        Entered::Decision(row, player) => {
+            let n = layout::row_count(sheet, 1);
+            let mut best = Best::None;
+            let mut deepest = 0;
+            let mut i = 0;
+            while i < n {
+                let step = edges::action_edge(sheet, entity, i);
+                let ActionStep::Edge(edge) = step else {
+                    i += 1;
+                    continue;
+                };
+                let v = solve_node(sheet, heads, labels, payoffs, method, edge.target, left - 1);
+                let Visit::Solved(at) = v else {
+                    return v;
+                };
+                let turn = turns::reply_to(heads, payoffs, player, best, edge, at);
+                match turn {
+                    ReplyTurn::Stop(r) => return Visit::Refused(r),
+                    ReplyTurn::Go(next) => {
+                        best = next;
+                    }
+                }
+                deepest = memo::deeper(heads, deepest, at);
+                i += 1;
+            }
+            turns::store_best(heads, labels, payoffs, entity, row, best, deepest)
+        }
+    }
+}
+
+// A chance node solves its outcomes.
+fn solve_chance(
+    sheet: &[u8],
+    heads: &mut [[u32; 5]],
+    labels: &mut [[u32; 64]],
+    payoffs: &mut [[f64; 8]],
+    method: Method,
+    entity: u32,
+    row: usize,
+    left: usize,
+) -> Visit
+    requires { ⌜ Asks method (now sheet) (rows (now heads) (now labels) (now payoffs)) (left + 1) × NodeAt (now sheet) row entity × ToWeigh method (now sheet) entity ⌝ }
+    ensures { λ v. ⌜ Visits method (now (sheet .entry)) (rows (now (heads .entry)) (now (labels .entry)) (now (payoffs .entry))) (rows (now (heads .exit)) (now (labels .exit)) (now (payoffs .exit))) (left + 1) entity v ⌝ }
+{
+    let n = layout::row_count(sheet, 1);
+    let mut sums = turns::no_sums();
+    let mut deepest = 0;
+    let mut i = 0;
+    while i < n {
+        let step = edges::chance_outcome(sheet, entity, i);
+        let ChanceStep::Outcome(outcome) = step else {
+            i += 1;
+            continue;
+        };
+        let v = solve_node(sheet, heads, labels, payoffs, method, outcome.target, left);
+        let Visit::Solved(at) = v else {
+            return v;
+        };
+        let turn = turns::outcome_to(heads, payoffs, entity, sums, outcome.probability, at);
+        let fault = turn.fault;
+        if let Check::Refused(r) = fault {
+            return Visit::Refused(r);
+        }
+        let next = turn.sums;
+        sums = next;
+        deepest = memo::deeper(heads, deepest, at);
+        i += 1;
+    }
+    turns::store_sums(heads, labels, payoffs, entity, row, sums, deepest)
+}
+
+// A refusal as the whole answer.
+fn refused_answer(fault: Check) -> Solved
+    ensures { λ r. ⌜ ((x : Refusal) → faultOf fault ≡ some x → held r ≡ heldFor (refused x)) ⌝ }
+{
+    Solved {
+        refusal: fault,
+        ending: Ending::Open,
+        action_count: 0,
+        labels: [0u32; 64],
+        payoff_count: 0,
+        payoffs: [0.0f64; 8],
+    }
+}
+
+// The actions of a row, first to last.
+fn actions_of(names: [u32; 64], count: usize) -> [u32; 64]
+    requires { ⌜ count ≤ 64 ⌝ }
+    ensures { λ r. ⌜ r ≡ padded 64 0 (reverse (take count names)) ⌝ }
+{
+    let mut out = [0u32; 64];
+    let mut j = 0;
+    while j < count {
+        out[j] = names[count - 1 - j];
+        j += 1;
+    }
+    out
+}
+
+// The answer in a row as a solution.
+fn solution_at(
+    heads: &[[u32; 5]],
+    labels: &[[u32; 64]],
+    payoffs: &[[f64; 8]],
+    row: usize,
+) -> Solved
+    requires { ⌜ Within (rows (now heads) (now labels) (now payoffs)) row × Sized (entry (rows (now heads) (now labels) (now payoffs)) row) ⌝ }
+    ensures { λ r. ⌜ held r ≡ heldFor (done (solutionOf (entry (rows (now (heads .entry)) (now (labels .entry)) (now (payoffs .entry))) row))) ⌝ }
+{
+    let head = heads[row];
+    let names = labels[row];
+    let values = payoffs[row];
+    let count = memo::wide(head[3]);
+    let ending = if head[1] == 0 {
+        Ending::Open
+    } else {
+        Ending::Terminal(head[2])
+    };
+    Solved {
+        refusal: Check::Passed,
+        ending,
+        action_count: count,
+        labels: actions_of(names, count),
+        payoff_count: memo::wide(head[4]),
+        payoffs: values,
+    }
+}
+
+// The solve of an opened sheet, to a depth.
+fn solve_to(sheet: &[u8], method: Method, start: u32, depth: usize) -> Solved
+    requires { ⌜ Opens (now sheet) × (depth ≤ 64) ⌝ }
+    ensures { λ r. ⌜ held r ≡ heldFor (solution-with method (gameOf (now (sheet .entry))) depth start) ⌝ }
+{
+    let mut heads = [[0u32; 5]; 1024];
+    let mut labels = [[0u32; 64]; 1024];
+    let mut payoffs = [[0.0f64; 8]; 1024];
+    let v = solve_node(
+        sheet,
+        &mut heads,
+        &mut labels,
+        &mut payoffs,
+        method,
+        start,
+        depth,
+    );
+    match v {
+        Visit::Refused(r) => refused_answer(Check::Refused(r)),
+        Visit::Solved(row) => solution_at(&heads, &labels, &payoffs, row),
+    }
+}
+
+// Any bytes, start and limit: 27, the refusals of opening, then the solve.
+fn solve_by(sheet: &[u8], method: Method, start: u32, limit: u64) -> Solved
+    ensures { λ r. ⌜ held r ≡ heldFor (solution method (now (sheet .entry)) start limit) ⌝ }
+{
+    if 64 < limit {
+        return refused_answer(answer::refuse(27, limit, 0, 0, 0));
+    }
+    let opened = sheet::open(sheet);
+    if let Check::Refused(_) = opened {
+        return refused_answer(opened);
+    }
+    let depth = if limit == 0 { 32 } else { limit as usize };
+    solve_to(sheet, method, start, depth)
+}
+
+// The chance-weighted solve.
+pub fn solve(sheet: &[u8], start: u32, limit: u64) -> Solved
+    ensures { λ r. ⌜ held r ≡ heldFor (solution ChanceWeighted (now (sheet .entry)) start limit) ⌝ }
+{
+    solve_by(sheet, Method::ChanceWeighted, start, limit)
+}
+
+// The plain solve, which refuses a chance node.
+pub fn solve_plain(sheet: &[u8], start: u32, limit: u64) -> Solved
+    ensures { λ r. ⌜ held r ≡ heldFor (solution Plain (now (sheet .entry)) start limit) ⌝ }
+{
+    solve_by(sheet, Method::Plain, start, limit)
+}

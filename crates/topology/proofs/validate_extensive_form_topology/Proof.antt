@@ -1,0 +1,75 @@
+-- The call answers the topology of any bytes.
+use native.Mathlib.Omega.{arith}
+use denote.Ref.{now}
+use Rattle.sheet.specs.Meaning.{Opens}
+use Rattle.sheet.proofs.OpeningLaws.{opens-layout, passed-opens, refused-opening}
+use Rattle.topology.proofs.NodeRows.{most-nodes}
+use Rattle.topology.proofs.CallLaws.{call-refused, call-targets, call-walks}
+use borrow.Author.Needs.{needs}
+use Rattle.topology.proofs.validate_extensive_form_topology.Statement.{statement}
+use Rattle.topology.proofs.validate_extensive_form_topology.Tie as tie
+
+open-requires : tie.Need-open-requires
+open-requires c κs = search needs
+
+enum-told : tie.Need-enum-told
+enum-told c = search needs
+
+returns : tie.Need-returns
+returns c =
+    call-refused _ _ _ (c .enum-told .given .1) (refused-opening _ _ (c .before .before .«open» .ensures) _ (c .enum-told .given .1))
+
+enum-told-2 : tie.Need-enum-told-2
+enum-told-2 c = search needs
+
+-- the sheet opened
+opens : (c : tie.After-enum-told2) → Opens (now (c .before .before .before .before .args .sheet))
+opens c = passed-opens _ _ (c .before .before .«open» .ensures) (c .enum-told2 .given .1)
+
+check-targets-requires : tie.Need-check-targets-requires
+check-targets-requires c κs = opens (c)
+
+enum-told-3 : tie.Need-enum-told-3
+enum-told-3 c = search needs
+
+returns-2 : tie.Need-returns-2
+returns-2 c =
+    call-targets _ (opens (c .before .before .before)) _ (c .before .before .check-targets .ensures) _ (c .enum-told3 .given .1)
+
+enum-told-4 : tie.Need-enum-told-4
+enum-told-4 c = search needs
+
+row-count-requires : tie.Need-row-count-requires
+row-count-requires c κs = (omega arith, opens-layout _ (opens (c .before .before .before)))
+
+root-of-requires : tie.Need-root-of-requires
+root-of-requires c κs = opens-layout _ (opens (c .before .before .before .before))
+
+add-validate-reachable-node : tie.Need-add-validate-reachable-node
+add-validate-reachable-node c = omega (arith, c .before .row-count .ensures, most-nodes _ (opens (c .before .before .before .before .before)))
+
+validate-reachable-node-requires : tie.Need-validate-reachable-node-requires
+validate-reachable-node-requires c κs = opens (c .before .before .before .before .before .before)
+
+returns-3 : tie.Need-returns-3
+returns-3 c =
+    call-walks _ (opens (c .before .before .before .before .before .before .before)) _ (c .before .before .before .before .before .before .check-targets .ensures) (c .before .before .before .before .enum-told4 .given .1)
+    _ _ _ _ (c .before .before .before .row-count .ensures) (c .before .before .root-of .ensures) (c .validate-reachable-node .ensures)
+
+pub validate-extensive-form-topology-spec : {M : Type 1} → statement M
+validate-extensive-form-topology-spec =
+    tie.close
+    (tie.spec
+    open-requires
+    enum-told
+    returns
+    enum-told-2
+    check-targets-requires
+    enum-told-3
+    returns-2
+    enum-told-4
+    row-count-requires
+    root-of-requires
+    add-validate-reachable-node
+    validate-reachable-node-requires
+    returns-3)

@@ -1,0 +1,297 @@
+// One edge's turn at a decision or at a chance node, and the answer that all turns come to, kept in the memo.
+ghost use mathlib.Core.Path.{_≡_};
+ghost use mathlib.Core.Bool.{true};
+ghost use mathlib.Core.List.{List, [], map, zipWith};
+ghost use mathlib.Core.Option.{Option, none, some};
+ghost use Prim.Native.Nat.{ℕ, _+_, _<_, _≤_};
+ghost use lib.ListN.{length, getD, take};
+ghost use Rattle.number.specs.Number.{Number};
+ghost use Rattle.number.specs.Meaning.{meaning};
+ghost use Rattle.number.specs.Answers.{plusProduct};
+ghost use Rattle.backward_induction.specs.Solve.{taken, products};
+ghost use Rattle.backward_induction.proofs.SolveLaws.{addedTo};
+ghost use Rattle.memo.specs.Memo.{rows, payoffsOf, PayoffRoom, Within};
+ghost use Rattle.memo.specs.Visits.{Keeps, KeptAs};
+ghost use Rattle.turns.specs.Replies.{replyIn, leadIn, decided, betterOf, Replied, Extendable, ExtendableBest};
+ghost use Rattle.turns.specs.Sums.{weighedUp, cells, Sized, Holds, TurnIs, SettledAs};
+use answer::Check;
+use answer::Refusal;
+use game::ActionEdge;
+use memo::Visit;
+use number::Weighted;
+
+// An edge that a decision may take, the memo row of its target, and the mover's payoff there.
+pub struct Reply {
+    pub edge: ActionEdge,
+    pub row: usize,
+    pub payoff: f64,
+}
+
+pub enum Best {
+    None,
+    Reply(Reply),
+}
+
+pub enum ReplyTurn {
+    Go(Best),
+    Stop(Refusal),
+}
+
+// One payoff's weighted sum.
+pub struct Sum {
+    pub sum: Weighted,
+}
+
+// The weighted sums of a chance node so far.
+pub struct Sums {
+    pub started: bool,
+    pub count: usize,
+    pub sums: [Sum; 8],
+}
+
+pub struct SumsTurn {
+    pub fault: Check,
+    pub sums: Sums,
+}
+
+// The sums as payoffs, and whether all are in range.
+pub struct Settled {
+    pub in_range: bool,
+    pub payoffs: [f64; 8],
+}
+
+// A later reply wins only by a strictly greater payoff.
+fn better(best: Best, reply: Reply) -> Best
+    ensures { λ r. ⌜ r ≡ betterOf best reply ⌝ }
+{
+    let Best::Reply(kept) = best else {
+        return Best::Reply(reply);
+    };
+    if number::below(kept.payoff, reply.payoff) {
+        return Best::Reply(reply);
+    }
+    best
+}
+
+// The better of the best reply so far and the reply of an edge, whose target's answer is in a row: 18 where the mover has no payoff there.
+pub fn reply_to(
+    heads: &[[u32; 5]],
+    payoffs: &[[f64; 8]],
+    player: u32,
+    best: Best,
+    edge: ActionEdge,
+    row: usize,
+) -> ReplyTurn
+    requires { ⌜ (row < length (now heads)) × (row < length (now payoffs)) × PayoffRoom (getD (now heads) row []) (getD (now payoffs) row []) ⌝ }
+    ensures { λ r. ⌜ ((labels : List (List ℕ)) → Replied (rows (now (heads .entry)) labels (now (payoffs .entry))) player best edge row r) ⌝ }
+{
+    let head = heads[row];
+    if head[4] <= player {
+        let entity = if head[1] == 0 { edge.target } else { head[2] };
+        return ReplyTurn::Stop(Refusal {
+            number: 18,
+            a: entity as u64,
+            b: player as u64,
+            c: 0,
+            d: 0,
+        });
+    }
+    let values = payoffs[row];
+    let payoff = values[player as usize];
+    ReplyTurn::Go(better(best, Reply { edge, row, payoff }))
+}
+
+// Keeps the winner's answer with its label in front.
+fn store_winner(
+    heads: &mut [[u32; 5]],
+    labels: &mut [[u32; 64]],
+    payoffs: &mut [[f64; 8]],
+    row: usize,
+    winner: Reply,
+    deepest: usize,
+)
+    requires { ⌜ Within (rows (now heads) (now labels) (now payoffs)) row × (deepest < 64) × Extendable (rows (now heads) (now labels) (now payoffs)) deepest winner ⌝ }
+    ensures { λ _. ⌜ Keeps (rows (now (heads .entry)) (now (labels .entry)) (now (payoffs .entry))) (rows (now (heads .exit)) (now (labels .exit)) (now (payoffs .exit))) row (deepest + 1) (taken (replyIn (rows (now (heads .entry)) (now (labels .entry)) (now (payoffs .entry))) winner)) ⌝ }
+{
+    let from = winner.row;
+    let old = heads[from];
+    let mut names = labels[from];
+    let values = payoffs[from];
+    let edge = winner.edge;
+    let count = memo::wide(old[3]);
+    names[count] = edge.label;
+    let head = [
+        (deepest + 1) as u32,
+        old[1],
+        old[2],
+        (count + 1) as u32,
+        old[4],
+    ];
+    memo::store(heads, labels, payoffs, row, head, names, values);
+}
+
+// Keeps the answer of a decision: 16 where it has no reply, else the winner's.
+pub fn store_best(
+    heads: &mut [[u32; 5]],
+    labels: &mut [[u32; 64]],
+    payoffs: &mut [[f64; 8]],
+    entity: u32,
+    row: usize,
+    best: Best,
+    deepest: usize,
+) -> Visit
+    requires { ⌜ Within (rows (now heads) (now labels) (now payoffs)) row × (deepest < 64) × ExtendableBest (rows (now heads) (now labels) (now payoffs)) deepest best ⌝ }
+    ensures { λ v. ⌜ KeptAs (rows (now (heads .entry)) (now (labels .entry)) (now (payoffs .entry))) (rows (now (heads .exit)) (now (labels .exit)) (now (payoffs .exit))) row (deepest + 1) (decided entity (leadIn (rows (now (heads .entry)) (now (labels .entry)) (now (payoffs .entry))) best)) v ⌝ }
+{
+    let Best::Reply(winner) = best else {
+        return memo::refused(16, entity as u64);
+    };
+    store_winner(heads, labels, payoffs, row, winner, deepest);
+    Visit::Solved(row)
+}
+
+// No sums yet.
+pub fn no_sums() -> Sums
+    ensures { λ r. ⌜ Holds r none ⌝ }
+{
+    Sums {
+        started: false,
+        count: 0,
+        sums: [Sum {
+            sum: Weighted::Finite(0.0),
+        }; 8],
+    }
+}
+
+// The first outcome's products.
+fn first_products(probability: f64, values: [f64; 8], count: usize) -> Sums
+    requires { ⌜ count ≤ 8 ⌝ }
+    ensures { λ r. ⌜ Holds r (some (products (meaning probability) (map meaning (take count values)))) ⌝ }
+{
+    let mut sums = [Sum {
+        sum: Weighted::Finite(0.0),
+    }; 8];
+    let mut j = 0;
+    while j < count {
+        sums[j] = Sum {
+            sum: number::in_range(number::weigh(probability, values[j])),
+        };
+        j += 1;
+    }
+    Sums {
+        started: true,
+        count,
+        sums,
+    }
+}
+
+// One more outcome's products on the sums so far.
+fn more_products(before: Sums, probability: f64, values: [f64; 8]) -> Sums
+    requires { ⌜ Sized before ⌝ }
+    ensures { λ r. ⌜ (r .started ≡ true) × (r .count ≡ before .count) × Sized r × (cells r ≡ zipWith plusProduct (cells before) (products (meaning probability) (map meaning (take (before .count) values)))) ⌝ }
+{
+    let count = before.count;
+    let mut sums = before.sums;
+    let mut j = 0;
+    while j < count {
+        let cell = sums[j];
+        let sum = cell.sum;
+        sums[j] = Sum {
+            sum: sum.plus(number::weigh(probability, values[j])),
+        };
+        j += 1;
+    }
+    Sums {
+        started: true,
+        count,
+        sums,
+    }
+}
+
+// One more outcome's products on the sums so far: 19 where its payoffs are not as many.
+pub fn outcome_to(
+    heads: &[[u32; 5]],
+    payoffs: &[[f64; 8]],
+    entity: u32,
+    sums: Sums,
+    probability: f64,
+    row: usize,
+) -> SumsTurn
+    requires { ⌜ (row < length (now heads)) × (row < length (now payoffs)) × PayoffRoom (getD (now heads) row []) (getD (now payoffs) row []) × Sized sums ⌝ }
+    ensures { λ r. ⌜ ((sofar : Option (List Number)) → Holds sums sofar → TurnIs r (addedTo entity sofar (meaning probability) (payoffsOf (getD (now (heads .entry)) row []) (getD (now (payoffs .entry)) row [])))) ⌝ }
+{
+    let head = heads[row];
+    let values = payoffs[row];
+    let count = memo::wide(head[4]);
+    if !sums.started {
+        return SumsTurn {
+            fault: Check::Passed,
+            sums: first_products(probability, values, count),
+        };
+    }
+    let expected = sums.count;
+    if count != expected {
+        return SumsTurn {
+            fault: answer::refuse(19, entity as u64, expected as u64, count as u64, 0),
+            sums,
+        };
+    }
+    SumsTurn {
+        fault: Check::Passed,
+        sums: more_products(sums, probability, values),
+    }
+}
+
+// The sums as payoffs, as far as all are in range.
+fn settle(sums: Sums) -> Settled
+    requires { ⌜ Sized sums ⌝ }
+    ensures { λ r. ⌜ SettledAs (r .«in_range») (cells sums) (map meaning (r .payoffs)) ⌝ }
+{
+    let count = sums.count;
+    let cells = sums.sums;
+    let mut payoffs = [0.0f64; 8];
+    let mut j = 0;
+    while j < count {
+        let cell = cells[j];
+        let sum = cell.sum;
+        let Weighted::Finite(x) = sum else {
+            return Settled {
+                in_range: false,
+                payoffs,
+            };
+        };
+        payoffs[j] = x;
+        j += 1;
+    }
+    Settled {
+        in_range: true,
+        payoffs,
+    }
+}
+
+// Keeps the answer of a chance node: 17 where it has no outcome, 25 where a sum is out of range.
+pub fn store_sums(
+    heads: &mut [[u32; 5]],
+    labels: &mut [[u32; 64]],
+    payoffs: &mut [[f64; 8]],
+    entity: u32,
+    row: usize,
+    sums: Sums,
+    deepest: usize,
+) -> Visit
+    requires { ⌜ Within (rows (now heads) (now labels) (now payoffs)) row × (deepest < 64) × Sized sums ⌝ }
+    ensures { λ v. ⌜ ((sofar : Option (List Number)) → Holds sums sofar → KeptAs (rows (now (heads .entry)) (now (labels .entry)) (now (payoffs .entry))) (rows (now (heads .exit)) (now (labels .exit)) (now (payoffs .exit))) row (deepest + 1) (weighedUp entity sofar) v) ⌝ }
+{
+    if !sums.started {
+        return memo::refused(17, entity as u64);
+    }
+    let settled = settle(sums);
+    if !settled.in_range {
+        return memo::refused(25, entity as u64);
+    }
+    let values = settled.payoffs;
+    let count = sums.count;
+    let head = [(deepest + 1) as u32, 0, 0, 0, count as u32];
+    memo::store(heads, labels, payoffs, row, head, [0u32; 64], values);
+    Visit::Solved(row)
+}

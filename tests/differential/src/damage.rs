@@ -1,0 +1,257 @@
+//! What may go wrong with a sheet: rows dropped, doubled or changed, which often leaves a sheet that opens, and
+//! damage to its bytes, which mostly does not.
+
+use crate::draft::{field, row, set_field, Draft};
+use crate::random::Random;
+use crate::sheet::*;
+
+/// Probabilities and payoffs that are refused, or nearly.
+const ODD_BITS: [u64; 14] = [
+    0x0000_0000_0000_0000, // 0
+    0x8000_0000_0000_0000, // minus 0
+    0x0000_0000_0000_0001, // the least subnormal
+    0x8000_0000_0000_0001,
+    0x3FF0_0000_0000_0000, // 1
+    0x3FF0_0000_0000_0001, // the next above 1
+    0xBFF0_0000_0000_0000,
+    0x7FEF_FFFF_FFFF_FFFF, // the greatest finite number
+    0xFFEF_FFFF_FFFF_FFFF,
+    0x7FF0_0000_0000_0000, // infinity
+    0xFFF0_0000_0000_0000,
+    0x7FF0_0000_0000_0001, // NaNs
+    0x7FF8_0000_0000_0000,
+    0xFFFF_FFFF_FFFF_FFFF,
+];
+
+/// A u32 that lies at some boundary, or an entity of the sheet.
+fn odd_number(draft: &Draft, random: &mut Random) -> u32 {
+    match random.below(3) {
+        0 => random.pick(&[0, 1, 2, 3, 7, 8, 9, 255, 256, 1023, 1024, 4096, 1 << 31, u32::MAX - 1, u32::MAX]),
+        1 => random.below(12) as u32,
+        _ => any_entity(draft, random),
+    }
+}
+
+/// An entity of some row, or one of none.
+pub fn any_entity(draft: &Draft, random: &mut Random) -> u32 {
+    let rows = &draft.sections[random.pick(&[NODES, NODES, NODES, CHILDREN, TERMINALS])];
+    if rows.is_empty() || random.one_in(20) {
+        return random.next() as u32;
+    }
+    field(&rows[random.below(rows.len())], 0)
+}
+
+/// Changes one thing about the rows.
+pub fn change_rows(draft: &mut Draft, random: &mut Random) {
+    let section = random.below(10);
+    let rows = draft.sections[section].len();
+    let place = random.below(rows.max(1));
+    let number = odd_number(draft, random);
+    let entity = any_entity(draft, random);
+    match random.below(16) {
+        // an edge that leads elsewhere, by all its rows or by some
+        0 => {
+            let edges = &draft.sections[TRANSITIONS];
+            if edges.is_empty() {
+                return;
+            }
+            let edge = field(&edges[random.below(edges.len())], 0);
+            let all = random.one_in(2);
+            for (section, at) in [(ACTIONS, 8), (CHANCES, 8), (TRANSITIONS, 4)] {
+                for row in draft.sections[section].iter_mut().filter(|row| field(row, 0) == edge) {
+                    if all || random.one_in(2) {
+                        set_field(row, at, entity);
+                    }
+                }
+            }
+        }
+        // an edge without its transition, or without another of its rows
+        1 => {
+            let section = random.pick(&[TRANSITIONS, TRANSITIONS, CHILDREN, ACTIONS, CHANCES]);
+            drop_row(draft, section, random);
+        }
+        // a node that is gone, or has no payoffs
+        2 => {
+            let section = random.pick(&[NODES, TERMINALS]);
+            drop_row(draft, section, random);
+        }
+        // a node without edges
+        3 => draft.sections[CHILDREN].retain(|row| field(row, 4) != entity),
+        // a node without outcomes, or without actions
+        4 => {
+            let section = random.pick(&[ACTIONS, CHANCES]);
+            let children: Vec<u32> = draft.sections[CHILDREN]
+                .iter()
+                .filter(|row| field(row, 4) == entity)
+                .map(|row| field(row, 0))
+                .collect();
+            draft.sections[section].retain(|row| !children.contains(&field(row, 0)));
+        }
+        // another payoff count
+        5 | 6 => {
+            let terminals = draft.sections[TERMINALS].len();
+            if terminals > 0 {
+                let payoffs = vec![random.below(5) as f64; random.pick(&[0, 1, 2, 3, 8, 9])];
+                draft.set_payoffs(random.below(terminals), &payoffs);
+            }
+        }
+        // another kind or player
+        7 => {
+            let nodes = draft.sections[NODES].len();
+            if let Some(node) = draft.sections[NODES].get_mut(random.below(nodes.max(1))) {
+                let kind = random.pick(&[0, 0, 1, 2, 3]);
+                set_field(node, 4, kind);
+                let player = if kind == 0 || random.one_in(8) { random.pick(&[0, 1, 2, 7, 8, u32::MAX]) } else { 0 };
+                set_field(node, 8, player);
+            }
+        }
+        // another probability
+        8 => odd_bits(draft, CHANCES, 12, random),
+        // another payoff
+        9 => odd_bits(draft, PAYOFFS, 0, random),
+        // the root below one of its nodes
+        10 => {
+            let root = draft.root;
+            draft.sections[CHILDREN].retain(|row| field(row, 0) != root);
+            draft.sections[CHILDREN].push(row([root, entity]));
+        }
+        // two sets made one
+        11 => {
+            let ids: Vec<u64> = draft.sections[SETS].iter().map(|row| u64_at(row, 8)).collect();
+            if !ids.is_empty() {
+                let id = random.pick(&ids);
+                draft.sections[SETS][random.below(ids.len())][8..].copy_from_slice(&id.to_le_bytes());
+            }
+        }
+        // a set row for another entity, player or set
+        12 => {
+            let ids: Vec<u64> = draft.sections[SETS].iter().map(|row| u64_at(row, 8)).collect();
+            let id = if ids.is_empty() { number.into() } else { random.pick(&ids) };
+            let player = random.pick(&[0, 0, 1, 2, u32::MAX]);
+            draft.sections[SETS].retain(|row| field(row, 0) != entity || random.one_in(9));
+            draft.set(entity, player, id);
+        }
+        // a label of another length, or another byte of text
+        13 => {
+            if random.one_in(2) {
+                if let Some(label) = draft.sections[LABELS].get_mut(random.below(8)) {
+                    set_field(label, 4, random.pick(&[0, 0, 0, 1, 2, 5, u32::MAX]));
+                }
+            } else if let Some(byte) = draft.sections[TEXT].get_mut(random.below(20)) {
+                byte[0] = random.pick(&[0x1F, 0x20, 0x7E, 0x7F, 0x00, 0xFF, b'x']);
+            }
+        }
+        // a row doubled
+        14 => {
+            if rows > 0 {
+                let copy = draft.sections[section][place].clone();
+                draft.sections[section].insert(random.below(rows + 1), copy);
+            }
+        }
+        // any field of any row
+        _ => {
+            if rows > 0 && WIDTHS[section] >= 4 {
+                let at = 4 * random.below(WIDTHS[section] / 4);
+                set_field(&mut draft.sections[section][place], at, number);
+            }
+        }
+    }
+}
+
+fn u64_at(row: &[u8], at: usize) -> u64 {
+    u64::from_le_bytes(row[at..at + 8].try_into().expect("eight bytes"))
+}
+
+/// Drops a row, a terminal's payoffs with it.
+fn drop_row(draft: &mut Draft, section: usize, random: &mut Random) {
+    let rows = draft.sections[section].len();
+    if rows > 0 {
+        let place = random.below(rows);
+        if section == TERMINALS {
+            draft.set_payoffs(place, &[]);
+        }
+        draft.sections[section].remove(place);
+    }
+}
+
+fn odd_bits(draft: &mut Draft, section: usize, at: usize, random: &mut Random) {
+    let rows = draft.sections[section].len();
+    if rows > 0 {
+        let bits = random.pick(&ODD_BITS);
+        draft.sections[section][random.below(rows)][at..at + 8].copy_from_slice(&bits.to_le_bytes());
+    }
+}
+
+/// Damages the bytes of a sheet.
+pub fn damage(bytes: &mut Vec<u8>, random: &mut Random) {
+    let pair = |section: usize| 12 + 8 * section;
+    let section = random.below(10);
+    match random.below(8) {
+        // flipped bits, in the header or anywhere
+        0 | 1 => {
+            for _ in 0..random.between(1, 4) {
+                let reach = if random.one_in(3) { HEADER } else { bytes.len() };
+                let place = random.below(reach.min(bytes.len()).max(1));
+                if let Some(byte) = bytes.get_mut(place) {
+                    *byte ^= 1 << random.below(8);
+                }
+            }
+        }
+        // cut short
+        2 => {
+            let length = match random.below(3) {
+                0 => bytes.len().saturating_sub(random.between(1, 20)),
+                1 => random.below(HEADER + 4).min(bytes.len()),
+                _ => random.below(bytes.len() + 1),
+            };
+            bytes.truncate(length);
+        }
+        // bytes added, sometimes past the longest sheet
+        3 => {
+            let more = if random.one_in(8) {
+                LONGEST + random.below(3) - bytes.len().min(LONGEST)
+            } else {
+                random.between(1, 40)
+            };
+            bytes.resize(bytes.len() + more, 0);
+        }
+        // an offset or a length moved
+        4 => {
+            if bytes.len() >= HEADER {
+                let by = random.pick(&[1u32, 4, 8, WIDTHS[section] as u32, 1 << 31]);
+                let by = if random.one_in(2) { by } else { by.wrapping_neg() };
+                change(bytes, pair(section) + 4 * random.below(2), |number| number.wrapping_add(by));
+            }
+        }
+        // the boundary between two sections moved
+        5 => {
+            if bytes.len() >= HEADER && section < TEXT {
+                let by = random.pick(&[1u32, 4, 8, 12, 16, 20, 24, 40, 60, 120, 240]);
+                let by = if random.one_in(2) { by } else { by.wrapping_neg() };
+                change(bytes, pair(section) + 4, |length| length.wrapping_add(by));
+                change(bytes, pair(section + 1), |offset| offset.wrapping_add(by));
+                change(bytes, pair(section + 1) + 4, |length| length.wrapping_sub(by));
+            }
+        }
+        // mark, edition, zero
+        6 => {
+            let place = random.below(8);
+            if let Some(byte) = bytes.get_mut(place) {
+                *byte = random.pick(&[0, 1, 2, 0x4B, 0xFF]);
+            }
+        }
+        // a u32 overwritten
+        _ => {
+            if bytes.len() >= HEADER {
+                let place = 8 + 4 * random.below((bytes.len() - 8) / 4);
+                let number = random.pick(&[0, 1, 2, 8, 9, 1024, u32::MAX]);
+                change(bytes, place, |_| number);
+            }
+        }
+    }
+}
+
+fn change(bytes: &mut [u8], place: usize, to: impl FnOnce(u32) -> u32) {
+    let number = u32::from_le_bytes(bytes[place..place + 4].try_into().expect("four bytes"));
+    bytes[place..place + 4].copy_from_slice(&to(number).to_le_bytes());
+}

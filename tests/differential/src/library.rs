@@ -1,0 +1,43 @@
+//! The proved library through its C interface, include/kgs.h. Built only where a library is given.
+
+use crate::answer::{lent, Answer, Call, Kuhn, Refusal, Solution, Variant, Written};
+
+extern "C" {
+    fn kgs_solve(sheet: *const u8, len: usize, start: u32, limit: u64) -> Solution;
+    fn kgs_solve_plain(sheet: *const u8, len: usize, start: u32, limit: u64) -> Solution;
+    fn kgs_paths(sheet: *const u8, len: usize, start: u32, limit: u64, out: *mut u64, out_len: usize) -> Written;
+    fn kgs_sets(sheet: *const u8, len: usize, out: *mut u64, out_len: usize) -> Written;
+    fn kgs_topology(sheet: *const u8, len: usize) -> Refusal;
+    fn kgs_kuhn_vanilla(iterations: u64) -> Kuhn;
+    fn kgs_kuhn_cfr_plus(iterations: u64) -> Kuhn;
+    fn kgs_kuhn_linear_cfr(iterations: u64) -> Kuhn;
+}
+
+/// The library's answer to a call on these bytes.
+pub fn answer(call: &Call, sheet: &[u8]) -> Answer {
+    let (bytes, len) = (sheet.as_ptr(), sheet.len());
+    // SAFETY: `bytes` and the lent buffers point to as many elements as the lengths beside them say, and outlive the
+    // call.
+    unsafe {
+        match *call {
+            Call::Solve { start, limit } => Answer::Solution(kgs_solve(bytes, len, start, limit)),
+            Call::SolvePlain { start, limit } => Answer::Solution(kgs_solve_plain(bytes, len, start, limit)),
+            Call::Paths { start, limit, room } => {
+                let mut buffer = lent(room);
+                let written = kgs_paths(bytes, len, start, limit, buffer.as_mut_ptr(), room);
+                Answer::Written(written, buffer)
+            }
+            Call::Sets { room } => {
+                let mut buffer = lent(room);
+                let written = kgs_sets(bytes, len, buffer.as_mut_ptr(), room);
+                Answer::Written(written, buffer)
+            }
+            Call::Topology => Answer::Topology(kgs_topology(bytes, len)),
+            Call::Kuhn { variant, iterations } => Answer::Kuhn(match variant {
+                Variant::Vanilla => kgs_kuhn_vanilla(iterations),
+                Variant::CfrPlus => kgs_kuhn_cfr_plus(iterations),
+                Variant::LinearCfr => kgs_kuhn_linear_cfr(iterations),
+            }),
+        }
+    }
+}
