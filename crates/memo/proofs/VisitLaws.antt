@@ -1,5 +1,5 @@
 -- Laws of visits: what was kept in its row is a visit's answer, and a visit after a visit.
-use mathlib.Core.Path.{_≡_, refl, sym, ap, _∙_, subst⁻¹}
+use mathlib.Core.Path.{_≡_, subst⁻¹}
 use mathlib.Core.List.{List}
 use Prim.Native.Nat.{ℕ, _<_, _≤_}
 use native.Mathlib.Omega.{arith}
@@ -11,15 +11,15 @@ use Rattle.backward_induction.specs.declared.Method.{Method}
 use Rattle.backward_induction.specs.Solve.{Solution, solve}
 use Rattle.memo.specs.declared.Visit.{Visit}
 use Rattle.memo.specs.declared.Visit.the-variants.{Solved, Refused}
-use Rattle.memo.specs.Memo.{Entry, height, Right, Rows, entry, stored, Filled, Memo, Extends}
-use Rattle.memo.specs.Visits.{SolvedIn, Visited, Visits, Keeps, KeptAs}
+use Rattle.memo.specs.Memo.{height, Right, Rows, Memo, Extends}
+use Rattle.memo.specs.Visits.{Visits, Keeps, KeptAs}
 use Rattle.memo.proofs.MemoLaws.{stored-same, stored-extends, stored-memo}
 
 module _ {method : Method} {s : List ℕ} where
   pub refused-visits : {m m′ : Rows} {left e : ℕ} {r : Refusal} → Memo method s m′ → Extends m m′ → solve method (gameOf s) left e ≡ refused r → Visits method s m m′ left e (Refused r)
   refused-visits memo ext h = record { memo = memo; extends = ext; visited = h }
 
-  module _ {m m′ : Rows} {row depth e left : ℕ} {v : Visit} (memo : Memo method s m) (here : row < rowCount s 0) (entity : field s 0 row 0 ≡ e) (near : depth ≤ left) (some-depth : 0 < depth) where
+  module _ (m m′ : Rows) {row depth e left : ℕ} {v : Visit} (memo : Memo method s m) (here : row < rowCount s 0) (entity : field s 0 row 0 ≡ e) (near : depth ≤ left) (some-depth : 0 < depth) where
     keeps-visits : (x : Solution) → Keeps m m′ row depth x → v ≡ Solved row → ((k : ℕ) → depth ≤ k → solve method (gameOf s) k e ≡ done x) → Visits method s m m′ left e v
     keeps-visits x k q h =
         let within = memo .within row here in

@@ -1,5 +1,5 @@
 -- The call on bytes, a start and a limit: 27, the refusals of opening, and the solve with the depth that the limit means.
-use mathlib.Core.Path.{_≡_, refl, sym, ap, _∙_}
+use mathlib.Core.Path.{_≡_}
 use mathlib.Core.List.{List}
 use Prim.Native.Nat.{ℕ, _<_, _≤_}
 use borrow.Author.Tests.{lt-ltb, le-ltb, ne-eqb}

@@ -1,17 +1,14 @@
 -- Entering a node: no depth left, no such node, an answer that is known, a terminal, and the edges of a decision or a chance node before any target is solved.
 use mathlib.Core.Path.{_≡_, refl, sym, ap, _∙_}
 use mathlib.Core.Bool.{Bool, true, false, _&&_}
-use mathlib.Core.List.{List, [], _∷_}
-use mathlib.Core.Option.{Option, none, some}
-use Prim.Native.Nat.{ℕ, zero, suc, _-_, _<_, _≤_}
+use mathlib.Core.List.{List, []}
+use mathlib.Core.Option.{none, some}
+use Prim.Native.Nat.{ℕ, suc, _-_, _<_, _≤_}
 use native.Mathlib.Omega.{arith}
 use borrow.Author.Tests.{ltb-true, leb-true}
-use lib.ListN.{getD}
 use lib.Dec.{ltb, leb}
 use Rattle.answer.specs.declared.Refusal.{Refusal}
-use Rattle.answer.specs.declared.Check.{Check}
 use Rattle.answer.specs.declared.Check.the-variants as C
-use Rattle.answer.specs.Fault.{Fault, faultOf}
 use Rattle.answer.specs.Refusals.{depthSpent, missingNode, unsupportedChanceNode}
 use Rattle.answer.specs.Answer.{Answer, refused, done, _>>=_, faultIn}
 use Rattle.rows.specs.Rows.{findRow, foundAt}
@@ -30,13 +27,11 @@ use Rattle.backward_induction.specs.declared.Method.{Method}
 use Rattle.backward_induction.specs.declared.Method.the-variants as Methods
 use Rattle.backward_induction.specs.Solve.{taken, inRange, atKind, step, solve}
 use Rattle.backward_induction.proofs.SolveLaws.{solve-zero, solve-suc, step-missing, step-action-fault, step-decision, step-plain, step-chance-fault, step-chance, bestOf-from, sumsOf-from}
-use Rattle.memo.specs.Memo.{Rows, entry, height, known, Memo}
+use Rattle.memo.specs.Memo.{Rows, entry, height, known}
 use Rattle.memo.specs.Visits.{SolvedIn}
-use Rattle.memo.specs.declared.Visit.the-variants.{Solved, Refused}
 use Rattle.turns.specs.declared.Best.the-variants as B
-use Rattle.turns.specs.Sums.{Holds}
 use Rattle.solver.specs.declared.Entered.the-variants as E
-use Rattle.solver.specs.Solving.{NodeAt, ended, Deciding, Weighing, ToWeigh, EnteredAs}
+use Rattle.solver.specs.Solving.{NodeAt, ended, EnteredAs}
 
 -- ---- the node's row
 module _ (s : List ℕ) (e : ℕ) (f : Found) (found : foundAt f ≡ findRow (width s 0) (section s 0) (rowCount s 0) e) where
@@ -72,8 +67,8 @@ both-true : (a b : Bool) → (a && b) ≡ true → (a ≡ true) × (b ≡ true)
 both-true true b h = (refl, h)
 both-true false b h = let z : _≡_ {A = ℕ} 0 1 = cc in absurd (omega arith)
 
-pub known-visited : {s : List ℕ} {m : Rows} {left e row : ℕ} → NodeAt s row e → known (entry m row .head) left ≡ true → SolvedIn s m left e row
-known-visited {m = m} {left = left} {row = row} n h =
+pub known-visited : {s : List ℕ} (m : Rows) {left e row : ℕ} → NodeAt s row e → known (entry m row .head) left ≡ true → SolvedIn s m left e row
+known-visited m {left} {row = row} n h =
     let (some-height, near) = both-true (ltb 0 (height (entry m row))) (leb (height (entry m row)) left) h in
     record { filled = record { row = n .here; solved = ltb-true 0 (height (entry m row)) some-height }; entity = n .entity; near = leb-true (height (entry m row)) left near }
 
@@ -93,14 +88,17 @@ module _ (method : Method) {s : List ℕ} {row e p : ℕ} (node : NodeAt s row e
 
   pub decision-starts : none ≡ faultIn (outgoingActionEdges (gameOf s) e) → EnteredAs method s m left e (E.Decision row p)
   decision-starts h =
-      no-fault (outgoingActionEdges (gameOf s) e) h λ xs q.
-      (some-depth, node, record {
-        kept = tt;
-        edges = xs;
-        left = sym (actions-walk s e (rowCount s 1) refl) ∙ q;
-        right = λ k _. solve-suc method (gameOf s) k e ∙ step-decision method (gameOf s) (solve method (gameOf s) k) e p kind xs q
-            ∙ ap (λ a. a >>= λ r. done (taken r)) (bestOf-from (solve method (gameOf s) k) p e xs);
-      })
+      no-fault (outgoingActionEdges (gameOf s) e) h λ xs q. (
+        some-depth,
+        node,
+        record {
+          kept = tt;
+          edges = xs;
+          left = sym (actions-walk s e (rowCount s 1) refl) ∙ q;
+          right = λ k _. solve-suc method (gameOf s) k e ∙ step-decision method (gameOf s) (solve method (gameOf s) k) e p kind xs q
+              ∙ ap (λ a. a >>= λ r. done (taken r)) (bestOf-from (solve method (gameOf s) k) p e xs);
+        },
+      )
 
 -- ---- a chance node
 module _ (method : Method) {s : List ℕ} {row e : ℕ} (node : NodeAt s row e) (kind : kindOf (gameOf s) e ≡ some Kinds.Chance) (m : Rows) (left : ℕ) (some-depth : 0 < left) where
@@ -113,12 +111,15 @@ module _ (method : Method) {s : List ℕ} {row e : ℕ} (node : NodeAt s row e) 
 
     pub chance-starts : none ≡ faultIn (outgoingChanceOutcomes (gameOf s) e) → EnteredAs method s m left e (E.Chance row)
     chance-starts h =
-        no-fault (outgoingChanceOutcomes (gameOf s) e) h λ os q.
-        (some-depth, node, λ w held. record {
-          sums = none;
-          held = held;
-          outcomes = os;
-          left = sym (chances-walk s e (rowCount s 1) refl) ∙ q;
-          right = λ k _. solve-suc method (gameOf s) k e ∙ step-chance method (gameOf s) (solve method (gameOf s) k) e kind weighted os q
-              ∙ ap (λ a. a >>= λ vs. inRange e vs >>= λ ws. done (record { terminal = none; actions = []; payoffs = ws })) (sumsOf-from (solve method (gameOf s) k) e os);
-        })
+        no-fault (outgoingChanceOutcomes (gameOf s) e) h λ os q. (
+          some-depth,
+          node,
+          λ w held. record {
+            sums = none;
+            held = held;
+            outcomes = os;
+            left = sym (chances-walk s e (rowCount s 1) refl) ∙ q;
+            right = λ k _. solve-suc method (gameOf s) k e ∙ step-chance method (gameOf s) (solve method (gameOf s) k) e kind weighted os q
+                ∙ ap (λ a. a >>= λ vs. inRange e vs >>= λ ws. done (record { terminal = none; actions = []; payoffs = ws })) (sumsOf-from (solve method (gameOf s) k) e os);
+          },
+        )

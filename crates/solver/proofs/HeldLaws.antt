@@ -2,12 +2,11 @@
 use mathlib.Core.Path.{_≡_, refl, sym, ap, _∙_}
 use mathlib.Core.Bool.{false, cond}
 use mathlib.Core.List.{List, [], _∷_, _++_, map, reverse, reverse-append}
-use mathlib.Core.Option.{Option, none, some}
+use mathlib.Core.Option.{none, some}
 use Prim.Native.Nat.{ℕ, zero, suc, _+_, _-_, _<_, _≤_}
 use native.Mathlib.Omega.{arith}
-use native.Mathlib.Numerals.{add-one}
 use borrow.Author.Tests.{ne-eqb}
-use lib.ListN.{length, getD, take, set, replicate, length-take, length-map, length-append, length-replicate, length-reverse}
+use lib.ListN.{length, getD, take, replicate, length-map, length-append, length-replicate, length-reverse}
 use lib.Seq.{take-suc, take-at, length-take-le}
 use lib.Dec.{eqb}
 use lib.Ieee.{Float, binary64, ofBits}
@@ -27,10 +26,10 @@ use Rattle.sheet.specs.Found.{terminalIn}
 use Rattle.sheet.specs.declared.Terminal.{Terminal as TerminalRow}
 use Rattle.memo.specs.Memo.{Entry, ending, actionCount, payoffCount, solutionOf, Sized, Rows, stored}
 use Rattle.memo.specs.declared.Visit.the-variants as Visiting
-use Rattle.memo.specs.Visits.{Keeps, KeptAs}
+use Rattle.memo.specs.Visits.{KeptAs}
 use Rattle.turns.proofs.Overwrite.{map-take}
 use Rattle.solver.specs.declared.Ending.{Ending}
-use Rattle.solver.specs.declared.Ending.the-variants.{Terminal, Open}
+use Rattle.solver.specs.declared.Ending.the-variants.{Open}
 use Rattle.solver.specs.Held.{endingOf, held, padded, heldFor}
 use Rattle.solver.specs.Solving.{ended}
 
@@ -71,7 +70,7 @@ solution-held x end actions count width sized e a c w =
 
 -- ---- a terminal
 module _ (s : List ℕ) (e row : ℕ) (t : TerminalRow) (values : List Float) (found : terminalOf (gameOf s) e ≡ some (terminalIn s t)) (few : t .count ≤ 8)
-  (filled : map meaning values ≡ rowsFrom (payoffRow s) (t .first) (t .count) ++ replicate (8 - t .count) (finite false 0)) where
+    (filled : map meaning values ≡ rowsFrom (payoffRow s) (t .first) (t .count) ++ replicate (8 - t .count) (finite false 0)) where
   abbrev payoffs : List Number
   payoffs = rowsFrom (payoffRow s) (t .first) (t .count)
 
@@ -89,17 +88,19 @@ module _ (s : List ℕ) (e row : ℕ) (t : TerminalRow) (values : List Float) (f
   pub terminal-kept : (m m′ : Rows) → m′ ≡ stored m row (record { head = 1 ∷ 1 ∷ e ∷ 0 ∷ t .count ∷ []; labels = replicate 64 0; payoffs = values }) → KeptAs m m′ row 1 (ended (gameOf s) e) (Visiting.Solved row)
   unfolding solutionOf
   terminal-kept m m′ q =
-      rw found
-      (record {
-        kept = record { head = 1 ∷ 1 ∷ e ∷ 0 ∷ t .count ∷ []; labels = replicate 64 0; payoffs = values };
-        sized = record {
-          low = omega arith;
-          few-actions = omega arith;
-          label-room = refl;
-          payoff-room = record { few = few; room = room };
-          padding = filled ∙ ap (λ r. r ++ replicate (8 - t .count) (finite false 0)) (sym terminal-payoffs);
-        };
-        high = refl;
-        solution = rw terminal-payoffs;
-        memo = q;
-      }, refl)
+      rw found (
+        record {
+          kept = record { head = 1 ∷ 1 ∷ e ∷ 0 ∷ t .count ∷ []; labels = replicate 64 0; payoffs = values };
+          sized = record {
+            low = omega arith;
+            few-actions = omega arith;
+            label-room = refl;
+            payoff-room = record { few = few; room = room };
+            padding = filled ∙ ap (λ r. r ++ replicate (8 - t .count) (finite false 0)) (sym terminal-payoffs);
+          };
+          high = refl;
+          solution = rw terminal-payoffs;
+          memo = q;
+        },
+        refl,
+      )

@@ -1,8 +1,8 @@
 -- One turn of either solving function's loop, and the loop's end, in the code's terms.
-use mathlib.Core.Path.{_≡_, refl, sym, ap, _∙_, subst}
+use mathlib.Core.Path.{_≡_, sym, ap, _∙_, subst}
 use mathlib.Core.Logic.{_⊎_, inl, inr}
 use mathlib.Core.List.{List}
-use mathlib.Core.Option.{Option, none, some}
+use mathlib.Core.Option.{Option, some}
 use Prim.Native.Nat.{ℕ, suc, _+_, _<_, _≤_, max}
 use native.Mathlib.Omega.{arith}
 use denote.Enum.Declared
@@ -33,7 +33,7 @@ use Rattle.backward_induction.proofs.SolveLaws.{addedTo}
 use Rattle.memo.specs.declared.Visit.{Visit}
 use Rattle.memo.specs.declared.Visit.the-variants.{Solved, Refused}
 use Rattle.memo.specs.Memo.{Rows, entry, height, payoffsOf}
-use Rattle.memo.specs.Visits.{Visited, Visits, KeptAs}
+use Rattle.memo.specs.Visits.{Visits, KeptAs}
 use Rattle.turns.specs.declared.Best.{Best}
 use Rattle.turns.specs.declared.ReplyTurn.{ReplyTurn}
 use Rattle.turns.specs.declared.ReplyTurn.the-variants.{Go, Stop}
@@ -42,7 +42,7 @@ use Rattle.turns.specs.declared.SumsTurn.{SumsTurn}
 use Rattle.turns.specs.Replies.{leadIn, Replied, ExtendableBest, decided}
 use Rattle.turns.specs.Sums.{Holds, TurnIs, weighedUp}
 use Rattle.solver.specs.Solving.{Deciding, Weighing}
-use Rattle.solver.proofs.Walks.{Walk, walk-refused, walk-kept}
+use Rattle.solver.proofs.Walks.{Walk, visited-as, walk-refused, walk-kept}
 use Rattle.solver.proofs.ReplyWalk as Replying
 use Rattle.solver.proofs.OutcomeWalk as Weighing-up
 
@@ -54,10 +54,6 @@ not-first : {P : Type 0} → LastTwo 0 → P
 not-first (inl e) = absurd (omega arith)
 not-first (inr e) = absurd (omega arith)
 
--- a visit that is told apart
-pub visited-as : {method : Method} {s : List ℕ} {m m′ : Rows} {left e : ℕ} {v w : Visit} → v ≡ w → Visits method s m m′ left e v → Visits method s m m′ left e w
-visited-as {method} {s} {m} {m′} {left} {e} q visit = subst (Visits method s m m′ left e) q visit
-
 -- ---- a decision
 module _ {method : Method} {s : List ℕ} {m₀ m : Rows} {row e p left n i deepest : ℕ} {best : Best} (walk : Walk method s m₀ m row e left n i deepest) (deciding : Deciding method s m e p i deepest best) where
   -- the end
@@ -68,8 +64,8 @@ module _ {method : Method} {s : List ℕ} {m₀ m : Rows} {row e p left n i deep
     pub decision-room : ExtendableBest m deepest best
     decision-room = Replying.best-extends (walk .opens) (walk .memo) e deepest best (deciding .kept) (replied deepest (omega arith))
 
-    pub decision-ends : {m′ : Rows} {v : Visit} → KeptAs m m′ row (deepest + 1) (decided e (leadIn m best)) v → Visits method s m₀ m′ left e v
-    decision-ends kept = walk-kept walk (decided e (leadIn m best)) kept replied
+    pub decision-ends : (m′ : Rows) {v : Visit} → KeptAs m m′ row (deepest + 1) (decided e (leadIn m best)) v → Visits method s m₀ m′ left e v
+    decision-ends m′ kept = walk-kept walk m′ (decided e (leadIn m best)) kept replied
 
   module _ (turn : i < n) where
     in-rows : i < rowCount s 1
@@ -84,31 +80,31 @@ module _ {method : Method} {s : List ℕ} {m₀ m : Rows} {row e p left n i deep
       edge : actionEdgeIn (gameOf s) e (childRow s i) ≡ done (some x)
       edge = sym found ∙ ap actionStep is
 
-      module _ {m′ : Rows} {less : ℕ} {v : Visit} (one : left ≡ suc less) (visit : Visits method s m m′ less (x .target) v) where
+      module _ (m′ : Rows) {less : ℕ} {v : Visit} (one : left ≡ suc less) (visit : Visits method s m m′ less (x .target) v) where
         so : {r : Refusal} → solve method (gameOf s) (suc less) e ≡ refused r → Visits method s m₀ m′ left e (Refused r)
-        so h = walk-refused walk visit (ap (λ k. solve method (gameOf s) k e) one ∙ h)
+        so h = walk-refused walk m′ visit (ap (λ k. solve method (gameOf s) k e) one ∙ h)
 
         pub reply-refused : {r : Refusal} → v ≡ Refused r → Visits method s m₀ m′ left e v
         reply-refused q =
             let deep = walk .deep in
-            visited-as (sym q) (so (Replying.target-refused deciding in-rows edge (omega arith) (visited-as q visit .visited)))
+            visited-as m₀ m′ (sym q) (so (Replying.target-refused deciding in-rows edge (omega arith) (visited-as m m′ q visit .visited)))
 
         module _ {at : ℕ} (there : v ≡ Solved at) {t : ReplyTurn} (replied-to : Replied m′ p best x at t) where
           pub reply-stops : {r : Refusal} → t ≡ Stop r → Visits method s m₀ m′ left e (Refused r)
           reply-stops q =
               let deep = walk .deep in
-              so (Replying.reply-stops deciding in-rows edge (walk .memo) (visited-as there visit) (subst (Replied m′ p best x at) q replied-to) (omega arith) (omega arith))
+              so (Replying.reply-stops deciding in-rows edge (walk .memo) (visited-as m m′ there visit) (subst (Replied m′ p best x at) q replied-to) (omega arith) (omega arith))
 
           pub reply-goes : {next : Best} {depth : ℕ} → t ≡ Go next → depth ≡ max deepest (height (entry m′ at)) → Deciding method s m′ e p (i + 1) depth next
-          reply-goes q d = Replying.reply-goes deciding in-rows edge (walk .memo) (visited-as there visit) (subst (Replied m′ p best x at) q replied-to) d
+          reply-goes q d = Replying.reply-goes deciding in-rows edge (walk .memo) (visited-as m m′ there visit) (subst (Replied m′ p best x at) q replied-to) d
 
 -- ---- a chance node
 module _ {method : Method} {s : List ℕ} {m₀ m : Rows} {row e left n i deepest : ℕ} {w : Sums} (walk : Walk method s m₀ m row e left n i deepest) (weighing : Weighing method s e i deepest w) where
   -- the end
-  pub chance-ends : n ≤ i → {m′ : Rows} {v : Visit} → ((sums : Option (List Number)) → Holds w sums → KeptAs m m′ row (deepest + 1) (weighedUp e sums) v) → Visits method s m₀ m′ left e v
-  chance-ends end kept =
+  pub chance-ends : n ≤ i → (m′ : Rows) {v : Visit} → ((sums : Option (List Number)) → Holds w sums → KeptAs m m′ row (deepest + 1) (weighedUp e sums) v) → Visits method s m₀ m′ left e v
+  chance-ends end m′ kept =
       let q = walk .rows in
-      walk-kept walk (weighedUp e (weighing .sums)) (kept (weighing .sums) (weighing .held)) (Weighing-up.all-outcomes weighing (omega arith))
+      walk-kept walk m′ (weighedUp e (weighing .sums)) (kept (weighing .sums) (weighing .held)) (Weighing-up.all-outcomes weighing (omega arith))
 
   module _ (turn : i < n) where
     row-here : i < rowCount s 1
@@ -123,21 +119,21 @@ module _ {method : Method} {s : List ℕ} {m₀ m : Rows} {row e left n i deepes
       outcome : chanceOutcomeIn (gameOf s) e (childRow s i) ≡ done (some (chanceIn o))
       outcome = sym found ∙ ap chanceStep is
 
-      module _ {m′ : Rows} {less : ℕ} {v : Visit} (one : left ≡ suc less) (visit : Visits method s m m′ less (o .target) v) where
+      module _ (m′ : Rows) {less : ℕ} {v : Visit} (one : left ≡ suc less) (visit : Visits method s m m′ less (o .target) v) where
         so-chance : {r : Refusal} → solve method (gameOf s) (suc less) e ≡ refused r → Visits method s m₀ m′ left e (Refused r)
-        so-chance h = walk-refused walk visit (ap (λ k. solve method (gameOf s) k e) one ∙ h)
+        so-chance h = walk-refused walk m′ visit (ap (λ k. solve method (gameOf s) k e) one ∙ h)
 
         pub outcome-refused : {r : Refusal} → v ≡ Refused r → Visits method s m₀ m′ left e v
         outcome-refused q =
             let deep = walk .deep in
-            visited-as (sym q) (so-chance (Weighing-up.target-refused weighing row-here outcome (omega arith) (visited-as q visit .visited)))
+            visited-as m₀ m′ (sym q) (so-chance (Weighing-up.target-refused weighing row-here outcome (omega arith) (visited-as m m′ q visit .visited)))
 
         module _ {at : ℕ} (there : v ≡ Solved at) {t : SumsTurn}
-          (turned : (sums : Option (List Number)) → Holds w sums → TurnIs t (addedTo e sums (meaning (o .probability)) (payoffsOf (entry m′ at .head) (entry m′ at .payoffs)))) where
+            (turned : (sums : Option (List Number)) → Holds w sums → TurnIs t (addedTo e sums (meaning (o .probability)) (payoffsOf (entry m′ at .head) (entry m′ at .payoffs)))) where
           pub outcome-stops : {r : Refusal} → t .fault ≡ Checks.Refused r → Visits method s m₀ m′ left e (Refused r)
           outcome-stops q =
               let deep = walk .deep in
-              so-chance (Weighing-up.outcome-stops weighing row-here outcome (visited-as there visit) turned (ap faultOf q) (omega arith) (omega arith))
+              so-chance (Weighing-up.outcome-stops weighing row-here outcome (visited-as m m′ there visit) turned (ap faultOf q) (omega arith) (omega arith))
 
           pub outcome-goes : {depth : ℕ} → t .fault ≡ Checks.Passed → depth ≡ max deepest (height (entry m′ at)) → Weighing method s e (i + 1) depth (t .sums)
-          outcome-goes q d = Weighing-up.outcome-goes weighing row-here outcome (visited-as there visit) turned (ap faultOf q) d
+          outcome-goes q d = Weighing-up.outcome-goes weighing row-here outcome (visited-as m m′ there visit) turned (ap faultOf q) d

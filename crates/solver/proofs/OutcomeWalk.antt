@@ -1,5 +1,5 @@
 -- The walk along the child rows of a chance node: a row that is no outcome, an outcome whose target is refused, one that stops or goes on with the sums, and the end.
-use mathlib.Core.Path.{_≡_, refl, sym, ap, _∙_}
+use mathlib.Core.Path.{_≡_, refl, ap, _∙_}
 use mathlib.Core.List.{List, [], _∷_}
 use mathlib.Core.Option.{Option, none, some}
 use Prim.Native.Nat.{ℕ, suc, _+_, _<_, _≤_, max}
@@ -17,7 +17,7 @@ use Rattle.sheet.specs.Meaning.{gameOf}
 use Rattle.backward_induction.specs.declared.Method.{Method}
 use Rattle.backward_induction.specs.Solve.{Solution, Solver, inRange, solve}
 use Rattle.backward_induction.proofs.SolveLaws.{addedTo, sumsFrom, sumsFrom-cons, sumsFrom-stop}
-use Rattle.memo.specs.Memo.{Rows, entry, height, solutionOf, payoffsOf, Memo}
+use Rattle.memo.specs.Memo.{Rows, entry, height, solutionOf, payoffsOf}
 use Rattle.memo.specs.Visits.{Visits}
 use Rattle.memo.specs.declared.Visit.the-variants.{Solved}
 use Rattle.turns.specs.declared.Sums.{Sums}
@@ -74,12 +74,12 @@ module _ {method : Method} {s : List ℕ} {e i deepest : ℕ} {w : Sums} (walk :
 
       -- ---- the target's answer is in a row of the memo
       module _ {m m′ : Rows} {left at : ℕ} (visit : Visits method s m m′ left (o .target) (Solved at)) {turn : SumsTurn}
-        (turned : (sums : Option (List Number)) → Holds w sums → TurnIs turn (addedTo e sums (o .probability) (payoffsOf (entry m′ at .head) (entry m′ at .payoffs)))) where
+          (turned : (sums : Option (List Number)) → Holds w sums → TurnIs turn (addedTo e sums (o .probability) (payoffsOf (entry m′ at .head) (entry m′ at .payoffs)))) where
         sums-go : (os : List Chance) (a : Answer (List Number)) → addedTo e (walk .sums) (o .probability) (payoffsOf (entry m′ at .head) (entry m′ at .payoffs)) ≡ a → (k : ℕ) → height (entry m′ at) ≤ k
             → summed e (sumsFrom (solve method (gameOf s) k) e (walk .sums) (o ∷ os)) ≡ summed e (a >>= λ more. sumsFrom (solve method (gameOf s) k) e (some more) os)
         unfolding solutionOf
         sums-go os a q k h =
-            ap (summed e) (sums-turn (solve method (gameOf s) k) e (walk .sums) o os (solutionOf (entry m′ at)) (solved-target (visit .memo) (visit .visited) k h)
+            ap (summed e) (sums-turn (solve method (gameOf s) k) e (walk .sums) o os (solutionOf (entry m′ at)) (solved-target m′ (visit .memo) (visit .visited) k h)
             ∙ ap (λ b. b >>= λ more. sumsFrom (solve method (gameOf s) k) e (some more) os) q)
 
         pub outcome-stops : {r : Refusal} {k : ℕ} → faultOf (turn .fault) ≡ some r → deepest ≤ k → left ≤ k → solve method (gameOf s) (suc k) e ≡ refused r

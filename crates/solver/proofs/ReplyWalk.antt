@@ -1,15 +1,15 @@
 -- The walk along the child rows of a decision: a row that is no edge, an edge whose target is refused, one that stops or goes on with the best reply, and the end.
 use mathlib.Core.Path.{_≡_, refl, sym, ap, _∙_}
-use mathlib.Core.List.{List, [], _∷_, reverse}
-use mathlib.Core.Option.{Option, none, some}
+use mathlib.Core.List.{List, _∷_, reverse}
+use mathlib.Core.Option.{none, some}
 use Prim.Native.Nat.{ℕ, suc, _+_, _<_, _≤_, max}
 use native.Mathlib.Omega.{arith}
-use lib.ListN.{length, take, length-take, length-reverse}
+use lib.ListN.{length, take, length-reverse}
 use lib.Seq.{length-take-le}
 use Rattle.answer.specs.declared.Refusal.{Refusal}
-use Rattle.answer.specs.Answer.{Answer, refused, done, _>>=_}
+use Rattle.answer.specs.Answer.{refused, done, _>>=_}
 use Rattle.answer.proofs.AnswerLaws.{bind-assoc}
-use Rattle.layout.specs.Layout.{rowCount, field}
+use Rattle.layout.specs.Layout.{rowCount}
 use Rattle.graph_relations.specs.RelationRows.{childRow}
 use Rattle.game.specs.declared.ActionEdge.{ActionEdge}
 use Rattle.game.specs.Edges.{actionEdgeIn}
@@ -17,18 +17,18 @@ use Rattle.game.proofs.Walk.{collectFrom, left-skip, left-keep, left-end}
 use Rattle.sheet.specs.Meaning.{gameOf, Opens}
 use Rattle.sheet.proofs.AcceptedGame.{accepted}
 use Rattle.backward_induction.specs.declared.Method.{Method}
-use Rattle.backward_induction.specs.Solve.{Solution, Reply, Solver, reply, taken, solve}
+use Rattle.backward_induction.specs.Solve.{Reply, Solver, reply, taken, solve}
 use Rattle.backward_induction.proofs.SolveLaws.{leading, bestFrom, bestFrom-cons, bestFrom-stop, reply-refused, reply-same}
 use Rattle.backward_induction.proofs.Bounds.{solve-sized}
-use Rattle.memo.specs.Memo.{Rows, entry, height, actionCount, solutionOf, Filled, Memo, Extends}
+use Rattle.memo.specs.Memo.{Rows, entry, height, actionCount, solutionOf, Memo, Extends}
 use Rattle.memo.specs.Visits.{SolvedIn, Visits}
-use Rattle.memo.specs.declared.Visit.the-variants.{Solved, Refused}
+use Rattle.memo.specs.declared.Visit.the-variants.{Solved}
 use Rattle.memo.proofs.MemoLaws.{same-solution, filled-on}
 use Rattle.turns.specs.declared.Best.{Best}
 use Rattle.turns.specs.declared.Best.the-variants as B
 use Rattle.turns.specs.declared.ReplyTurn.{ReplyTurn}
 use Rattle.turns.specs.declared.ReplyTurn.the-variants.{Go, Stop}
-use Rattle.turns.specs.Replies.{replyIn, leadIn, KeptIn, turnIn, KeptTurn, Replied, ExtendableBest, decided}
+use Rattle.turns.specs.Replies.{replyIn, leadIn, KeptIn, turnIn, Replied, ExtendableBest, decided}
 use Rattle.solver.specs.Solving.{Deciding}
 
 -- ---- the best reply in a memo that has grown
@@ -42,8 +42,8 @@ module _ {method : Method} {s : List ℕ} {m m′ : Rows} where
   same-lead a b e (B.Reply r) k = rw (same-solution a b (r .row) k (filled-on e k))
 
 -- what a row that was visited answers, with any depth from its height on
-pub solved-target : {method : Method} {s : List ℕ} {m : Rows} {left e i : ℕ} → Memo method s m → SolvedIn s m left e i → (k : ℕ) → height (entry m i) ≤ k → solve method (gameOf s) k e ≡ done (solutionOf (entry m i))
-solved-target {method} {s} {i = i} memo v k h = rw (v .entity) at (memo .right i (v .filled) .right k h)
+pub solved-target : {method : Method} {s : List ℕ} (m : Rows) {left e i : ℕ} → Memo method s m → SolvedIn s m left e i → (k : ℕ) → height (entry m i) ≤ k → solve method (gameOf s) k e ≡ done (solutionOf (entry m i))
+solved-target m {i = i} memo v k h = rw (v .entity) at (memo .right i (v .filled) .right k h)
 
 -- one edge with the answer of its target
 best-turn : (f : Solver) (e p : ℕ) (m : Rows) (best : Best) (x : ActionEdge) (xs : List ActionEdge) (row : ℕ) (turn : ReplyTurn) → f (x .target) ≡ done (solutionOf (entry m row))
@@ -84,7 +84,7 @@ module _ {method : Method} {s : List ℕ} {m : Rows} {e p i deepest : ℕ} {best
             → bestFrom (solve method (gameOf s) k) e p (leadIn m best) (x ∷ xs) ≡ (turnIn m′ turn >>= λ lead. bestFrom (solve method (gameOf s) k) e p lead xs)
         turned {turn} r xs k h =
             rw (same-lead memo (visit .memo) (visit .extends) best (walk .kept))
-            (best-turn (solve method (gameOf s) k) e p m′ best x xs at turn (solved-target (visit .memo) (visit .visited) k h) r)
+            (best-turn (solve method (gameOf s) k) e p m′ best x xs at turn (solved-target m′ (visit .memo) (visit .visited) k h) r)
 
         pub reply-stops : {r : Refusal} {k : ℕ} → Replied m′ p best x at (Stop r) → deepest ≤ k → left ≤ k → solve method (gameOf s) (suc k) e ≡ refused r
         reply-stops {r} {k} t h l =

@@ -1,7 +1,7 @@
 -- What both walks along a node's child rows keep: the memo is right and has only grown, and the depth that the answers need is below what is left.
 use mathlib.Core.Path.{_≡_, refl, ap, _∙_, subst}
 use mathlib.Core.List.{List}
-use Prim.Native.Nat.{ℕ, zero, suc, _+_, _-_, _<_, _≤_, max}
+use Prim.Native.Nat.{ℕ, suc, _+_, _-_, _<_, _≤_, max}
 use native.Mathlib.Omega.{arith}
 use lib.ListN.{length}
 use Rattle.answer.specs.declared.Refusal.{Refusal}
@@ -15,7 +15,7 @@ use Rattle.backward_induction.specs.Solve.{Solution, solve}
 use Rattle.memo.specs.declared.Visit.{Visit}
 use Rattle.memo.specs.declared.Visit.the-variants.{Solved, Refused}
 use Rattle.memo.specs.Memo.{Rows, entry, height, PayoffRoom, Within, Memo, Extends}
-use Rattle.memo.specs.Visits.{SolvedIn, Visits, KeptAs}
+use Rattle.memo.specs.Visits.{Visits, KeptAs}
 use Rattle.memo.proofs.VisitLaws.{kept-visits}
 use Rattle.solver.specs.Solving.{NodeAt, EnteredAs, Enters}
 use Rattle.solver.specs.declared.Entered.{Entered}
@@ -39,8 +39,8 @@ pub record Walk (method : Method) (s : List ℕ) (m₀ m : Rows) (row e left n i
   pub extends : Extends m₀ m
   pub as-long : AsLong m₀ m
 
-pub walk-starts : {method : Method} {s : List ℕ} {m : Rows} {row e left n : ℕ} → Opens s → left ≤ 64 → 0 < left → Memo method s m → NodeAt s row e → n ≡ rowCount s 1 → Walk method s m m row e left n 0 0
-walk-starts {s = s} opens low some-depth memo node rows =
+pub walk-starts : {method : Method} {s : List ℕ} (m : Rows) {row e left n : ℕ} → Opens s → left ≤ 64 → 0 < left → Memo method s m → NodeAt s row e → n ≡ rowCount s 1 → Walk method s m m row e left n 0 0
+walk-starts {s = s} m opens low some-depth memo node rows =
     let few = rows-bound s (opens-layout s opens) 1 (omega arith) in
     record {
       opens = opens;
@@ -55,16 +55,22 @@ walk-starts {s = s} opens low some-depth memo node rows =
       as-long = record { heads = refl; labels = refl; payoffs = refl };
     }
 
-pub visits-after : {method : Method} {s : List ℕ} {m m₁ m′ : Rows} {left e : ℕ} {v : Visit} → Extends m m₁ → Visits method s m₁ m′ left e v → Visits method s m m′ left e v
-visits-after ext v = record { memo = v .memo; extends = λ i h. v .extends i (ext i h); visited = v .visited }
+pub visits-after : {method : Method} {s : List ℕ} (m m₁ m′ : Rows) {left e : ℕ} {v : Visit} → Extends m m₁ → Visits method s m₁ m′ left e v → Visits method s m m′ left e v
+visits-after m m₁ m′ ext v = record { memo = v .memo; extends = λ i h. v .extends i (ext i h); visited = v .visited }
 
--- a row that was visited
-module _ {method : Method} {s : List ℕ} {m m′ : Rows} {left e at : ℕ} (visit : Visits method s m m′ left e (Solved at)) where
-  pub at-within : Within m′ at
-  at-within = visit .memo .within at (visit .visited .filled .row)
+-- a visit told apart
+pub visited-as : {method : Method} {s : List ℕ} (m m′ : Rows) {left e : ℕ} {v w : Visit} → v ≡ w → Visits method s m m′ left e v → Visits method s m m′ left e w
+visited-as {method} {s} m m′ {left} {e} q visit = subst (Visits method s m m′ left e) q visit
 
-  pub at-room : PayoffRoom (entry m′ at .head) (entry m′ at .payoffs)
-  at-room = visit .memo .right at (visit .visited .filled) .sized .payoff-room
+-- the row of an answer is one of the memo, and its payoffs are within their array
+pub record AnswerRow (m : Rows) (at : ℕ) : Type 0 where
+  pub within : Within m at
+  pub room : PayoffRoom (entry m at .head) (entry m at .payoffs)
+
+pub answer-row : {method : Method} {s : List ℕ} (m m′ : Rows) {left e at : ℕ} {v : Visit} → v ≡ Solved at → Visits method s m m′ left e v → AnswerRow m′ at
+answer-row m m′ q visit =
+    let there = visited-as m m′ q visit in
+    record { within = there .memo .within _ (there .visited .filled .row); room = there .memo .right _ (there .visited .filled) .sized .payoff-room }
 
 module _ {method : Method} {s : List ℕ} {m₀ m : Rows} {row e left n i deepest : ℕ} (walk : Walk method s m₀ m row e left n i deepest) where
   pub walk-skips : i < n → Walk method s m₀ m row e left n (i + 1) deepest
@@ -81,15 +87,15 @@ module _ {method : Method} {s : List ℕ} {m₀ m : Rows} {row e left n i deepes
     as-long = walk .as-long;
   }
 
-  module _ {m′ : Rows} {less target : ℕ} {v : Visit} (visit : Visits method s m m′ less target v) where
+  module _ (m′ : Rows) {less target : ℕ} {v : Visit} (visit : Visits method s m m′ less target v) where
     pub walk-refused : {r : Refusal} → solve method (gameOf s) left e ≡ refused r → Visits method s m₀ m′ left e (Refused r)
     walk-refused h = record { memo = visit .memo; extends = λ j k. visit .extends j (walk .extends j k); visited = h }
 
   pub longer : {m′ : Rows} → AsLong m m′ → AsLong m₀ m′
   longer l = record { heads = l .heads ∙ walk .as-long .heads; labels = l .labels ∙ walk .as-long .labels; payoffs = l .payoffs ∙ walk .as-long .payoffs }
 
-  pub walk-goes : {m′ : Rows} {less target at depth : ℕ} → less < left → i < n → Visits method s m m′ less target (Solved at) → AsLong m m′ → depth ≡ max deepest (height (entry m′ at)) → Walk method s m₀ m′ row e left n (i + 1) depth
-  walk-goes less h visit long d =
+  pub walk-goes : (m′ : Rows) {less target at depth : ℕ} → less < left → i < n → Visits method s m m′ less target (Solved at) → AsLong m m′ → depth ≡ max deepest (height (entry m′ at)) → Walk method s m₀ m′ row e left n (i + 1) depth
+  walk-goes m′ less h visit long d =
       let near = visit .visited .near in
       let deep = walk .deep in
       record {
@@ -106,14 +112,14 @@ module _ {method : Method} {s : List ℕ} {m₀ m : Rows} {row e left n i deepes
       }
 
   -- the end: the node's answer is kept
-  pub walk-kept : {m′ : Rows} {v : Visit} (a : Answer Solution) → KeptAs m m′ row (deepest + 1) a v → ((k : ℕ) → deepest ≤ k → solve method (gameOf s) (suc k) e ≡ a) → Visits method s m₀ m′ left e v
-  walk-kept a kept right =
+  pub walk-kept : (m′ : Rows) {v : Visit} (a : Answer Solution) → KeptAs m m′ row (deepest + 1) a v → ((k : ℕ) → deepest ≤ k → solve method (gameOf s) (suc k) e ≡ a) → Visits method s m₀ m′ left e v
+  walk-kept m′ a kept right =
       let deep = walk .deep in
       let near : deepest + 1 ≤ left = omega arith in
       let positive : 0 < deepest + 1 = omega arith in
-      visits-after (walk .extends) (kept-visits (walk .memo) (walk .node .here) (walk .node .entity) near positive a kept
+      visits-after m₀ m m′ (walk .extends) (kept-visits m m′ (walk .memo) (walk .node .here) (walk .node .entity) near positive a kept
       (λ k h. let z : k ≡ suc (k - 1) = omega arith in ap (λ j. solve method (gameOf s) j e) z ∙ right (k - 1) (omega arith)))
 
 -- a node that was entered, told apart
-pub entered-as : {method : Method} {s : List ℕ} {m m′ : Rows} {left e : ℕ} {r w : Entered} → r ≡ w → Enters method s m m′ left e r → EnteredAs method s m′ left e w
-entered-as {method} {s} {m} {m′} {left} {e} q enters = subst (EnteredAs method s m′ left e) q (enters .entered)
+pub entered-as : {method : Method} {s : List ℕ} (m m′ : Rows) {left e : ℕ} {r w : Entered} → r ≡ w → Enters method s m m′ left e r → EnteredAs method s m′ left e w
+entered-as {method} {s} m m′ {left} {e} q enters = subst (EnteredAs method s m′ left e) q (enters .entered)

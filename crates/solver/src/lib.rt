@@ -275,12 +275,7 @@ fn actions_of(names: [u32; 64], count: usize) -> [u32; 64]
 }
 
 // The answer in a row as a solution.
-fn solution_at(
-    heads: &[[u32; 5]],
-    labels: &[[u32; 64]],
-    payoffs: &[[f64; 8]],
-    row: usize,
-) -> Solved
+fn solution_at(heads: &[[u32; 5]], labels: &[[u32; 64]], payoffs: &[[f64; 8]], row: usize) -> Solved
     requires { ⌜ Within (rows (now heads) (now labels) (now payoffs)) row × Sized (entry (rows (now heads) (now labels) (now payoffs)) row) ⌝ }
     ensures { λ r. ⌜ held r ≡ heldFor (done (solutionOf (entry (rows (now (heads .entry)) (now (labels .entry)) (now (payoffs .entry))) row))) ⌝ }
 {

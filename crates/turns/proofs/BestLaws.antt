@@ -1,13 +1,13 @@
 -- The answer of a decision as it is kept: the winner's, with its label put in front by one store at the end of the labels.
-use mathlib.Core.Path.{_≡_, refl, sym, ap, _∙_}
-use mathlib.Core.List.{List, [], _∷_, _++_, reverse, reverse-append}
-use Prim.Native.Nat.{ℕ, _+_, _<_, _≤_}
+use mathlib.Core.Path.{_≡_, refl, ap, _∙_}
+use mathlib.Core.List.{List, [], _∷_, reverse, reverse-append}
+use Prim.Native.Nat.{ℕ, _+_, _<_}
 use native.Mathlib.Omega.{arith}
 use native.Mathlib.Numerals.{add-one}
 use lib.ListN.{length, getD, take, set, length-set}
 use lib.Seq.{take-suc-set}
 use Rattle.backward_induction.specs.Solve.{taken}
-use Rattle.memo.specs.Memo.{Entry, height, actionCount, payoffCount, solutionOf, Sized, Rows, entry, stored}
+use Rattle.memo.specs.Memo.{Entry, actionCount, payoffCount, solutionOf, Sized, Rows, entry, stored}
 use Rattle.memo.specs.Visits.{Keeps}
 use Rattle.turns.specs.declared.Reply.{Reply as Candidate}
 use Rattle.turns.specs.Replies.{replyIn, Extendable}

@@ -5,7 +5,7 @@ use Prim.Native.Nat.{ℕ, zero, suc, _+_, _-_, _<_, _≤_}
 use native.Mathlib.Omega.{arith}
 use native.Mathlib.Nat.{sub-zero, zero-sub}
 use native.Mathlib.Numerals.{add-one}
-use lib.ListN.{length, getD, take, drop, set, replicate, length-map, List·getD-map}
+use lib.ListN.{length, getD, take, drop, set, replicate}
 use lib.Seq.{take-suc, drop-cons, length-take-le, take-all, take-at, set-at, getD-at}
 
 -- the first j elements of the new list, and then those of the old

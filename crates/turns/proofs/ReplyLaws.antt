@@ -1,27 +1,27 @@
 -- Laws of one edge's turn at a decision: what the code makes of an answer in the memo is the definition's reply, and the better one of two.
-use mathlib.Core.Path.{_≡_, refl, sym, ap, _∙_, subst⁻¹}
+use mathlib.Core.Path.{_≡_, refl, sym, ap, _∙_}
 use mathlib.Core.Bool.{Bool, true, false, cond}
 use mathlib.Core.List.{List, [], _∷_, map}
-use mathlib.Core.Option.{Option, none, some, Option·getD}
+use mathlib.Core.Option.{none, some, Option·getD}
 use Prim.Native.Nat.{ℕ, zero, suc, _<_, _≤_}
 use native.Mathlib.Omega.{arith}
 use lib.ListN.{length, getD, getElem?, take, length-take, length-map}
 use lib.Dec.{eqb}
 use lib.Ieee.{Float}
 use borrow.Author.Tests.{ne-eqb}
-use Rattle.number.specs.Number.{Number, less}
+use Rattle.number.specs.Number.{less}
 use Rattle.number.specs.Meaning.{meaning}
 use Rattle.answer.specs.Refusals.{missingPlayerPayoff}
-use Rattle.answer.specs.Answer.{Answer, refused, done, _>>=_}
+use Rattle.answer.specs.Answer.{done}
 use Rattle.game.specs.declared.ActionEdge.{ActionEdge}
-use Rattle.backward_induction.specs.Solve.{Solution, Reply, reply, better}
+use Rattle.backward_induction.specs.Solve.{Reply, better}
 use Rattle.backward_induction.proofs.SolveLaws.{leading, reply-lacks, reply-done}
 use Rattle.memo.specs.Memo.{Rows, entry, ending, payoffCount, solutionOf, Filled}
 use Rattle.turns.specs.declared.Reply.{Reply as Candidate}
 use Rattle.turns.specs.declared.Best.{Best}
 use Rattle.turns.specs.declared.Best.the-variants as B
 use Rattle.turns.specs.declared.ReplyTurn.the-variants.{Go, Stop}
-use Rattle.turns.specs.Replies.{replyIn, leadIn, betterOf, KeptIn, turnIn, KeptTurn, Replied}
+use Rattle.turns.specs.Replies.{replyIn, leadIn, betterOf, KeptIn, Replied}
 
 -- ---- an element, where there is one
 past-end : {A : Type 0} (l : List A) (i : ℕ) → length l ≤ i → getElem? l i ≡ none

@@ -3,11 +3,11 @@ use mathlib.Core.Path.{_≡_, refl, sym, ap, _∙_}
 use mathlib.Core.Bool.{true, false}
 use mathlib.Core.List.{List, [], _∷_, _++_, map, zipWith, List·Memᴰ}
 use mathlib.Core.Option.{Option, none, some}
-use Prim.Native.Nat.{ℕ, _+_, _-_, _<_, _≤_}
+use Prim.Native.Nat.{ℕ, _+_, _<_}
 use native.Mathlib.Omega.{arith}
-use lib.ListN.{length, take, drop, replicate, length-map, take-append-drop}
+use lib.ListN.{length, take, replicate, length-map, take-append-drop}
 use lib.Ieee.{Float}
-use Rattle.number.specs.Number.{Number, finite, plus}
+use Rattle.number.specs.Number.{Number, plus}
 use Rattle.number.specs.Meaning.{meaning}
 use Rattle.number.specs.Answers.{finiteOnly, plusProduct}
 use Rattle.answer.specs.declared.Check.{Check}
@@ -19,8 +19,8 @@ use Rattle.backward_induction.proofs.SolveLaws.{addedTo, added-differs, added-s
 use Rattle.backward_induction.proofs.Bounds.{products-length}
 use Rattle.memo.specs.declared.Visit.{Visit}
 use Rattle.memo.specs.declared.Visit.the-variants.{Solved, Refused}
-use Rattle.memo.specs.Memo.{Entry, solutionOf, Rows, stored}
-use Rattle.memo.specs.Visits.{Keeps, KeptAs}
+use Rattle.memo.specs.Memo.{solutionOf, Rows, stored}
+use Rattle.memo.specs.Visits.{KeptAs}
 use Rattle.turns.specs.declared.Sums.{Sums}
 use Rattle.turns.specs.Sums.{cells, Sized, Holds, TurnIs, SettledAs, weighedUp}
 use Rattle.turns.proofs.Overwrite.{length-zipWith, map-take}
@@ -50,11 +50,13 @@ module _ (w : Sums) where
     turn-more r s l k (some xs) h =
         let q = h .stand .1 in
         let as-many : length (products p vs) ≡ length xs = products-length p vs ∙ l ∙ q in
-        rw (added-same e xs p vs (l ∙ q))
-        (refl, record {
-          sized = k .2;
-          stand = (k .0, k .1 ∙ q ∙ sym (length-zipWith plus xs (products p vs) as-many), k .3 ∙ rw (h .stand .2) (finite-sums p xs vs));
-        })
+        rw (added-same e xs p vs (l ∙ q)) (
+          refl,
+          record {
+            sized = k .2;
+            stand = (k .0, k .1 ∙ q ∙ sym (length-zipWith plus xs (products p vs) as-many), k .3 ∙ rw (h .stand .2) (finite-sums p xs vs));
+          },
+        )
 
   -- ---- the answer
   module _ (e row depth : ℕ) (v : Visit) where
@@ -76,17 +78,19 @@ module _ (w : Sums) where
       let n : length (cells w) ≡ w .count = ap length (h .stand .2) ∙ length-map xs finiteOnly ∙ sym (h .stand .1) in
       let (these, finite-all) = all-in-range xs (take (length (cells w)) ns) (sym (h .stand .2) ∙ same) in
       let payoffs : map meaning (take (w .count) values) ≡ xs = map-take meaning (w .count) values ∙ ap (λ k. take k ns) (sym n) ∙ sym these in
-      rw (in-range e xs finite-all)
-      (record {
-        kept = record { head = (depth + 1) ∷ 0 ∷ 0 ∷ 0 ∷ w .count ∷ []; labels = replicate 64 0; payoffs = values };
-        sized = record {
-          low = omega arith;
-          few-actions = omega arith;
-          label-room = refl;
-          payoff-room = record { few = h .sized .few; room = sym (length-map values meaning) ∙ room };
-          padding = sym (take-append-drop (w .count) ns) ∙ rw (map-take meaning (w .count) values) (ap (λ r. take (w .count) ns ++ r) (rw n at later));
-        };
-        high = refl;
-        solution = rw payoffs;
-        memo = q;
-      }, refl)
+      rw (in-range e xs finite-all) (
+        record {
+          kept = record { head = (depth + 1) ∷ 0 ∷ 0 ∷ 0 ∷ w .count ∷ []; labels = replicate 64 0; payoffs = values };
+          sized = record {
+            low = omega arith;
+            few-actions = omega arith;
+            label-room = refl;
+            payoff-room = record { few = h .sized .few; room = sym (length-map values meaning) ∙ room };
+            padding = sym (take-append-drop (w .count) ns) ∙ rw (map-take meaning (w .count) values) (ap (λ r. take (w .count) ns ++ r) (rw n at later));
+          };
+          high = refl;
+          solution = rw payoffs;
+          memo = q;
+        },
+        refl,
+      )

@@ -12,6 +12,9 @@ use Rattle.game.specs.Game.{Game, Chance, TerminalUtility}
 use Rattle.worked.specs.Written.{u32s, f64s, written}
 
 -- ---- bit patterns of the f64s
+abbrev pub half : ℕ
+half = 0x3FE0_0000_0000_0000
+
 abbrev pub two : ℕ
 two = 0x4000_0000_0000_0000
 

@@ -5,14 +5,20 @@ use mathlib.Core.List.{List, [], _∷_, _++_, map}
 use mathlib.Core.Option.{Option, none, some}
 use lib.ListN.{length}
 use Rattle.number.specs.Number.{toBits}
+use Rattle.number.specs.Meaning.{meaning}
 use Rattle.answer.specs.Answer.{Answer, refused, done, _>>=_}
-use Rattle.answer.specs.Refusals.{missingNode, missingTransition, unsupportedChanceNode, depthSpent, limitAbove}
+use Rattle.answer.specs.Refusals.{missingNode, missingTransition, noOutgoingActions, unsupportedChanceNode, depthSpent, limitAbove}
 use Rattle.backward_induction.specs.declared.Method.{Method}
 use Rattle.backward_induction.specs.declared.Method.the-variants.{ChanceWeighted, Plain}
 use Rattle.backward_induction.specs.Solve.{Solution}
 use Rattle.backward_induction.specs.Call.{solution}
+use Rattle.paths.specs.Listing.{listing}
+use Rattle.topology.specs.Topology.{topology}
+use Rattle.kuhn.specs.declared.CfrVariant.{CfrVariant}
+use Rattle.kuhn.specs.declared.CfrVariant.the-variants.{Vanilla, CfrPlus, LinearCfr}
+use Rattle.kuhn.specs.Solve.{kuhn}
 use Rattle.worked.specs.Written.{u32s}
-use Rattle.worked.specs.Worked.{two, three, children, transitions, sheetWith, worked}
+use Rattle.worked.specs.Worked.{half, two, three, children, transitions, sheetWith, worked}
 
 pub record Case : Type 0 where
   pub number : ℕ
@@ -42,6 +48,14 @@ solves s start limit = solved ChanceWeighted s start limit
 abbrev pub says : Option ℕ → List ℕ → List ℕ → Answer (List ℕ)
 says t labels bits = done (endingWords t ++ (length labels ∷ (labels ++ (length bits ∷ bits))))
 
+-- the topology check answers nothing
+unfoldable pub validated : List ℕ → Answer (List ℕ)
+validated s = topology s >>= λ u. done []
+
+-- the bits of the value and of the bet share
+unfoldable pub played : CfrVariant → ℕ → Answer (List ℕ)
+played variant iterations = kuhn variant iterations >>= λ k. done (toBits (meaning (k .value)) ∷ toBits (meaning (k .«bet_share»)) ∷ [])
+
 -- ---- the sheet's two variants
 
 -- child rows 10 and 11 swapped
@@ -52,7 +66,7 @@ swapped = sheetWith (u32s (11 ∷ 1 ∷ []) ++ (u32s (10 ∷ 1 ∷ []) ++ (u32s 
 unfoldable pub unlinked : List ℕ
 unlinked = sheetWith children (u32s (10 ∷ 2 ∷ []) ++ (u32s (12 ∷ 4 ∷ []) ++ u32s (13 ∷ 5 ∷ [])))
 
--- ---- the cases. Labels: 0 "open", 1 "wait".
+-- ---- the cases. Labels: 0 "open", 1 "wait". The paths have a buffer of 1,000 u64s.
 unfoldable pub cases : List Case
 cases =
     case 1 (solves worked 1 0) (says none (0 ∷ []) (two ∷ three ∷ []))
@@ -61,9 +75,14 @@ cases =
     ∷ case 4 (solves worked 1 2) (refused (depthSpent 4))
     ∷ case 5 (solves worked 1 3) (says none (0 ∷ []) (two ∷ three ∷ []))
     ∷ case 6 (solved Plain worked 1 0) (refused (unsupportedChanceNode 2))
+    ∷ case 7 (listing worked 1 0 1000) (refused (noOutgoingActions 2))
+    ∷ case 8 (validated worked) (refused (missingNode 10))
     ∷ case 9 (solves unlinked 1 0) (refused (missingTransition 11))
     ∷ case 10 (solves worked 9 0) (refused (missingNode 9))
     ∷ case 11 (solves worked 1 65) (refused (limitAbove 65))
+    ∷ case 12 (played Vanilla 0) (done (0 ∷ half ∷ []))
+    ∷ case 12 (played CfrPlus 0) (done (0 ∷ half ∷ []))
+    ∷ case 12 (played LinearCfr 0) (done (0 ∷ half ∷ []))
     ∷ []
 
 -- each case's answer is what 01 says

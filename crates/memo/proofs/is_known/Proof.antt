@@ -1,8 +1,8 @@
-use borrow.Author.Needs.{needs}
-use borrow.Author.Tests.{eq-eqb, ne-eqb, lt-ltb}
-use mathlib.Core.Path.{_≡_, sym}
+-- `is_known` tells whether a row has an answer, and one that holds with the depth that is left.
 use Prim.Native.Nat.{_<_}
 use native.Mathlib.Omega.{arith}
+use borrow.Author.Needs.{needs}
+use borrow.Author.Tests.{lt-ltb}
 use Rattle.memo.proofs.is_known.Statement.{statement}
 use Rattle.memo.proofs.is_known.Tie as tie
 

@@ -1,17 +1,16 @@
+-- `actions_of` turns the labels round. The loop's invariant: the first j of the turned list stand in the array.
+use Prim.Native.Nat.{ℕ, _-_, _≤_}
 use mathlib.Core.Path.{_≡_, refl, sym, ap, _∙_}
 use mathlib.Core.List.{List, reverse, _++_}
-use Prim.Native.Nat.{ℕ, _-_, _≤_}
 use native.Mathlib.Omega.{arith}
 use borrow.Author.Needs.{needs}
-use lib.ListN.{length, take, drop, replicate, length-set, length-reverse}
+use lib.ListN.{length, take, replicate, length-set, length-reverse}
 use lib.Seq.{length-take-le}
 use Rattle.turns.proofs.Overwrite.{over, over-plain, over-end, drop-replicate}
 use Rattle.solver.specs.Held.{padded}
 use Rattle.solver.proofs.HeldLaws.{getD-reverse}
 use Rattle.solver.proofs.actions_of.Statement.{statement}
 use Rattle.solver.proofs.actions_of.Tie as tie
-use Rattle.solver.proofs.actions_of.Reads as reads
-use Rattle.solver.proofs.actions_of.Lts as lts
 
 abbrev Inv-loop : tie.InvT-loop
 Inv-loop count names out₀ j₀ out j = (j ≤ count) × (length out ≡ 64) × (out ≡ over (reverse (take count names)) out₀ j)
@@ -19,58 +18,55 @@ Inv-loop count names out₀ j₀ out j = (j ≤ count) × (length out ≡ 64) ×
 abbrev μ-loop : tie.MeasureT-loop
 μ-loop count names out₀ j₀ out j = count - j
 
--- src/lib.rt:270:5
 loop-holds : tie.Need-loop-holds Inv-loop μ-loop
 loop-holds c = (omega arith, refl, refl)
 
--- src/lib.rt:271:24
 sub-out : tie.Need-sub-out Inv-loop μ-loop
 sub-out c = omega arith
 
--- src/lib.rt:271:24
 sub-out-2 : tie.Need-sub-out-2 Inv-loop μ-loop
 sub-out-2 c = omega arith
 
--- src/lib.rt:271:18
 mul-out : tie.Need-mul-out Inv-loop μ-loop
 mul-out c = omega arith
 
--- src/lib.rt:271:18
 array-read-out : tie.Need-array-read-out Inv-loop μ-loop
 array-read-out c = omega arith
 
--- src/lib.rt:271:9
 mul-out-2 : tie.Need-mul-out-2 Inv-loop μ-loop
 mul-out-2 c = omega arith
 
--- src/lib.rt:271:9
 array-write-out : tie.Need-array-write-out Inv-loop μ-loop
 array-write-out c = omega arith
 
--- src/lib.rt:272:9
 add-j : tie.Need-add-j Inv-loop μ-loop
 add-j c = omega arith
 
--- src/lib.rt:270:5
 loop-less : tie.Need-loop-less Inv-loop μ-loop
 loop-less c = omega arith
 
--- src/lib.rt:270:5
 loop-again : tie.Need-loop-again Inv-loop μ-loop
-loop-again c = let a = (c .before .before) .args in
-    let p = (c .before .before) .pre in
-    let l = (c .before) .loop in
+loop-again c =
+    let start = c .before .before in
+    let loop-head = c .before in
+    let a = start .args in
+    let p = start .pre in
+    let l = loop-head .loop in
     let long : length (a .t1) ≡ 64 = search needs in
-    let n : length (reverse (take (a .count) (a .t1))) ≡ a .count = length-reverse (take (a .count) (a .t1)) ∙ length-take-le (a .count) (a .t1) (omega arith) in
-    (omega arith, length-set (l .out) (l .j) _ ∙ l .inv .1,
-    over-plain (reverse (take (a .count) (a .t1))) (replicate 64 0) (l .out) (l .j) 0 _ (omega arith) (omega arith) (l .inv .2) (sym (getD-reverse (a .t1) (a .count) (l .j) 0 (omega arith) (omega arith))))
+    let n : length (reverse (take (a .count) (a .t1))) ≡ a .count = length-reverse (take (a .count) (a .t1)) ∙ length-take-le (a .count) (a .t1) (omega arith) in (
+      omega arith,
+      length-set (l .out) (l .j) _ ∙ l .inv .1,
+      over-plain (reverse (take (a .count) (a .t1))) (replicate 64 0) (l .out) (l .j) 0 _ (omega arith) (omega arith) (l .inv .2) (sym (getD-reverse (a .t1) (a .count) (l .j) 0 (omega arith) (omega arith))),
+    )
 
--- src/lib.rt:264:1
 returns : tie.Need-returns Inv-loop μ-loop
 unfolding padded
-returns c = let a = (c .before .before) .args in
-    let p = (c .before .before) .pre in
-    let l = (c .before) .loop in
+returns c =
+    let start = c .before .before in
+    let loop-head = c .before in
+    let a = start .args in
+    let p = start .pre in
+    let l = loop-head .loop in
     let long : length (a .t1) ≡ 64 = search needs in
     let new = reverse (take (a .count) (a .t1)) in
     let n : length (reverse (take (a .count) (a .t1))) ≡ a .count = length-reverse (take (a .count) (a .t1)) ∙ length-take-le (a .count) (a .t1) (omega arith) in

@@ -1,10 +1,8 @@
+-- `refused_answer` holds the refusal and nothing else.
 use Rattle.solver.proofs.HeldLaws.{refused-held}
 use Rattle.solver.proofs.refused_answer.Statement.{statement}
 use Rattle.solver.proofs.refused_answer.Tie as tie
-use Rattle.solver.proofs.refused_answer.Reads as reads
-use Rattle.solver.proofs.refused_answer.Lts as lts
 
--- src/lib.rt:250:1
 returns : tie.Need-returns
 returns c = λ x h. refused-held (c .args .fault) x h
 

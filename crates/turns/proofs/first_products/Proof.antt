@@ -1,6 +1,7 @@
+-- `first_products` holds the first outcome's products. The loop's invariant: the first j cells are those of the products.
+use Prim.Native.Nat.{_-_, _≤_}
 use mathlib.Core.Path.{_≡_, refl, sym, ap, _∙_}
 use mathlib.Core.List.{map}
-use Prim.Native.Nat.{_-_, _≤_}
 use native.Mathlib.Omega.{arith}
 use borrow.Author.Needs.{needs}
 use lib.ListN.{length, take, length-set}
@@ -50,22 +51,31 @@ loop-less : tie.Need-loop-less Inv-loop μ-loop
 loop-less c = omega arith
 
 loop-again : tie.Need-loop-again Inv-loop μ-loop
-loop-again c = let l = (c .before .before .before) .loop in
-    let a = (c .before .before .before .before) .args in
+loop-again c =
+    let start = c .before .before .before .before in
+    let loop-head = c .before .before .before in
+    let after-weigh = c .before in
+    let l = loop-head .loop in
+    let a = start .args in
     let p = meaning (a .probability) in
     let long : length (a .t2) ≡ 8 = search needs in
-    let small = (c .before .before .before .before) .pre in
-    let count = first-count p (a .t2) (a .count) (omega arith) in
-    (omega arith, length-set (l .sums) (l .j) _ ∙ l .inv .1,
-    over-next cell _ _ (l .sums) (l .j) (finiteOnly (times p (meaning nan))) _ (omega arith) (omega arith) (l .inv .2)
-    (c .in-range .ensures ∙ ap finiteOnly ((c .before) .weigh .ensures) ∙ first-at p (a .t2) (a .count) (omega arith) (l .j) nan (omega arith)))
+    let small = start .pre in
+    let count = first-count p (a .t2) (a .count) (omega arith) in (
+      omega arith,
+      length-set (l .sums) (l .j) _ ∙ l .inv .1,
+      over-next cell _ _ (l .sums) (l .j) (finiteOnly (times p (meaning nan))) _ (omega arith) (omega arith) (l .inv .2)
+          (c .in-range .ensures ∙ ap finiteOnly (after-weigh .weigh .ensures) ∙ first-at p (a .t2) (a .count) (omega arith) (l .j) nan (omega arith)),
+    )
 
 returns : tie.Need-returns Inv-loop μ-loop
-returns c = let l = (c .before) .loop in
-    let a = (c .before .before) .args in
+returns c =
+    let start = c .before .before in
+    let loop-head = c .before in
+    let l = loop-head .loop in
+    let a = start .args in
     let p = meaning (a .probability) in
     let long : length (a .t2) ≡ 8 = search needs in
-    let small = (c .before .before) .pre in
+    let small = start .pre in
     let end : l .j ≡ a .count = omega arith in
     let count = first-count p (a .t2) (a .count) (omega arith) in
     record {

@@ -1,8 +1,9 @@
-use Rattle.memo.proofs.MemoLaws.{no-payoffs}
-use mathlib.Core.Path.{_≡_, refl, sym, ap, _∙_}
+-- `settle` gives the sums as payoffs where all are in range. The loop's invariant: the first j are, and stand in the array.
 use Prim.Native.Nat.{_-_, _≤_}
+use mathlib.Core.Path.{_≡_, refl}
 use native.Mathlib.Omega.{arith}
 use borrow.Author.Needs.{needs}
+use Rattle.memo.proofs.MemoLaws.{no-payoffs}
 use Rattle.turns.proofs.SumLaws.{Settling, settle-turn, settle-stop, settled}
 use Rattle.turns.proofs.settle.Statement.{statement}
 use Rattle.turns.proofs.settle.Tie as tie
@@ -29,32 +30,48 @@ enum-told : tie.Need-enum-told Inv-loop μ-loop
 enum-told c = search needs
 
 returns : tie.Need-returns Inv-loop μ-loop
-returns c = let l = (c .before .before .before .before) .loop in
-    let sized = (c .before .before .before .before .before .before) .pre in
-    settle-stop ((c .before .before .before .before .before .before) .args .sums .sums) _ (l .payoffs) (l .j) _ (l .inv .1) (omega arith) ((c .before .before .before .before .before .before) .args .sums .count) ((c) .enum-told .given .1) (omega arith)
+returns c =
+    let start = c .before .before .before .before .before .before in
+    let loop-head = c .before .before .before .before in
+    let l = loop-head .loop in
+    let sized = start .pre in
+    settle-stop (start .args .sums .sums) _ (l .payoffs) (l .j) _ (l .inv .1) (omega arith) (start .args .sums .count) (c .enum-told .given .1) (omega arith)
 
 mul-payoffs : tie.Need-mul-payoffs Inv-loop μ-loop
-mul-payoffs c = omega (arith, (c .before .before .before .before .before .before .before) .pre)
+mul-payoffs c =
+    let start = c .before .before .before .before .before .before .before in
+    omega (arith, start .pre)
 
 array-write-payoffs : tie.Need-array-write-payoffs Inv-loop μ-loop
-array-write-payoffs c = omega (arith, (c .before .before .before .before .before .before .before) .pre)
+array-write-payoffs c =
+    let start = c .before .before .before .before .before .before .before in
+    omega (arith, start .pre)
 
 add-j : tie.Need-add-j Inv-loop μ-loop
-add-j c = omega (arith, (c .before .before .before .before .before .before .before) .pre)
+add-j c =
+    let start = c .before .before .before .before .before .before .before in
+    omega (arith, start .pre)
 
 loop-less : tie.Need-loop-less Inv-loop μ-loop
 loop-less c = omega arith
 
 loop-again : tie.Need-loop-again Inv-loop μ-loop
-loop-again c = let l = (c .before .before .before .before .before) .loop in
-    let sized = (c .before .before .before .before .before .before .before) .pre in
-    (omega arith, settle-turn ((c .before .before .before .before .before .before .before) .args .sums .sums) _ (l .payoffs) (l .j) _ (l .inv .1) (omega arith) _ ((c .before) .sum .given .1) (omega arith))
+loop-again c =
+    let start = c .before .before .before .before .before .before .before in
+    let loop-head = c .before .before .before .before .before in
+    let after-sum = c .before in
+    let l = loop-head .loop in
+    let sized = start .pre in
+    (omega arith, settle-turn (start .args .sums .sums) _ (l .payoffs) (l .j) _ (l .inv .1) (omega arith) _ (after-sum .sum .given .1) (omega arith))
 
 returns-2 : tie.Need-returns-2 Inv-loop μ-loop
-returns-2 c = let l = (c .before) .loop in
-    let sized = (c .before .before .before) .pre in
-    let end : l .j ≡ (c .before .before .before) .args .sums .count = omega arith in
-    settled ((c .before .before .before) .args .sums .sums) _ (l .payoffs) ((c .before .before .before) .args .sums .count) no-payoffs (sized .room) (sized .few) (rw end at (l .inv .1))
+returns-2 c =
+    let start = c .before .before .before in
+    let loop-head = c .before in
+    let l = loop-head .loop in
+    let sized = start .pre in
+    let end : l .j ≡ start .args .sums .count = omega arith in
+    settled (start .args .sums .sums) _ (l .payoffs) (start .args .sums .count) no-payoffs (sized .room) (sized .few) (rw end at (l .inv .1))
 
 pub settle-spec : {M : Type 1} → statement M
 settle-spec =
