@@ -165,16 +165,9 @@ fn solve_node(
     let entered = enter(sheet, heads, labels, payoffs, method, entity, left);
     match entered {
         Entered::Done(v) => v,
-        Entered::Chance(row) => solve_chance(
-            sheet,
-            heads,
-            labels,
-            payoffs,
-            method,
-            entity,
-            row,
-            left - 1,
-        ),
+        Entered::Chance(row) => {
+            solve_chance(sheet, heads, labels, payoffs, method, entity, row, left - 1)
+        }
         Entered::Decision(row, player) => {
             let n = layout::row_count(sheet, 1);
             let mut best = Best::None;
