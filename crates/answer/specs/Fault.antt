@@ -1,6 +1,7 @@
 -- The first fault in a row of tests. `none` is no fault. Definitions only.
 use Prim.Native.Nat.{ℕ, zero, suc}
 use mathlib.Core.Bool.{Bool, true, false}
+use mathlib.Core.List.{List, [], _∷_}
 use mathlib.Core.Option.{Option, none, some}
 use Rattle.answer.specs.declared.Refusal.{Refusal}
 use Rattle.answer.specs.declared.Check.{Check}
@@ -24,6 +25,11 @@ given false a = none
 unfoldable pub first : {A : Type 0} → ℕ → (ℕ → Option A) → Option A
 first zero f = none
 first (suc n) f = first n f ▹ f n
+
+-- the first fault among those of a list's elements
+unfoldable pub firstIn : {A : Type 0} → (A → Fault) → List A → Fault
+firstIn f [] = none
+firstIn f (x ∷ xs) = f x ▹ firstIn f xs
 
 -- the fault that a check of the code says
 abbrev pub faultOf : Check → Fault

@@ -19,6 +19,12 @@ pub enum Check {
     Refused(Refusal),
 }
 
+// What a call that lists u64s answers: how many it wrote into the lent buffer, or a refusal.
+pub enum Written {
+    Count(usize),
+    Refused(Refusal),
+}
+
 pub fn refuse(number: u64, a: u64, b: u64, c: u64, d: u64) -> Check
     ensures { λ r. ⌜ faultOf r ≡ some (refusal number a b c d) ⌝ }
 {

@@ -118,16 +118,19 @@ fn enter(sheet: &[u8], memo: &mut [[usize; 3]], entity: u32, left: usize) -> Ent
     }
 }
 
+// A count stops growing here, above any buffer.
+const CAP: usize = 0x4000_0000_0000_0000;
+
 // A sum, as far as the bound.
 fn capped(a: usize, b: usize) -> usize
     requires { ⌜ (a ≤ cap) × (b ≤ cap) ⌝ }
     ensures { λ r. ⌜ r ≡ min cap (a + b) ⌝ }
 {
     let sum = a + b;
-    if sum < 0x4000_0000_0000_0000 {
+    if sum < CAP {
         return sum;
     }
-    0x4000_0000_0000_0000
+    CAP
 }
 
 fn deeper(a: usize, b: usize) -> usize

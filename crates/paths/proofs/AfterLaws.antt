@@ -1,7 +1,7 @@
--- Labels in front of paths: none, one more at the end, paths in a row; and the words of a node's paths where it has some.
+-- Labels in front of paths: one more at the end, paths in a row, one path, no label; and the words of a node's paths where it has some.
 use Prim.Native.Nat.{ℕ, zero, suc}
 use mathlib.Core.Path.{_≡_, refl, sym, _∙_}
-use mathlib.Core.List.{List, [], _∷_, _++_, append-nil}
+use mathlib.Core.List.{List, [], _∷_, _++_, append-nil, append-assoc}
 use mathlib.Core.Option.{none, Option·some-ne-none}
 use Rattle.answer.specs.Answer.{Answer, refused, done, faultIn}
 use Rattle.answer.proofs.AnswerLaws.{refused-not-done}
@@ -13,31 +13,30 @@ use Rattle.path_counts.specs.Paths.{Path, behind, paths, recordOf, records}
 use Rattle.path_counts.proofs.PathLaws.{depth-spent}
 use Rattle.paths.specs.Writing.{after, wordsFrom, pathTo, EndsAt}
 
-behind-append : (l : ℕ) (ps qs : List Path) → behind l (ps ++ qs) ≡ behind l ps ++ behind l qs
-unfolding behind
-behind-append l [] qs = refl
-behind-append l (p ∷ ps) qs = rw (behind-append l ps qs)
+module _ (ls : List ℕ) where
+  -- one label more
+  pub after-snoc : (l : ℕ) (ps : List Path) → after (ls ++ (l ∷ [])) ps ≡ after ls (behind l ps)
+  unfolding after behind
+  after-snoc l [] = refl
+  after-snoc l (p ∷ ps) = rw (append-assoc, after-snoc l ps)
 
-pub after-nil : (ls : List ℕ) → after ls [] ≡ []
-unfolding after behind
-after-nil [] = refl
-after-nil (l ∷ ls) = rw (after-nil ls)
+  pub after-nil : after ls [] ≡ []
+  unfolding after
+  after-nil = refl
 
-pub after-append : (ls : List ℕ) (ps qs : List Path) → after ls (ps ++ qs) ≡ after ls ps ++ after ls qs
+  pub after-append : (ps qs : List Path) → after ls (ps ++ qs) ≡ after ls ps ++ after ls qs
+  unfolding after
+  after-append [] qs = refl
+  after-append (p ∷ ps) qs = rw (after-append ps qs)
+
+  after-one : (s : List ℕ) (t : Terminal) → after ls (pathTo s t [] ∷ []) ≡ pathTo s t ls ∷ []
+  unfolding after
+  after-one s t = rw append-nil
+
+pub after-none : (ps : List Path) → after [] ps ≡ ps
 unfolding after
-after-append [] ps qs = refl
-after-append (l ∷ ls) ps qs = rw (after-append ls ps qs) (behind-append l (after ls ps) (after ls qs))
-
--- one label more
-pub after-snoc : (ls : List ℕ) (l : ℕ) (ps : List Path) → after (ls ++ (l ∷ [])) ps ≡ after ls (behind l ps)
-unfolding after
-after-snoc [] l ps = refl
-after-snoc (x ∷ ls) l ps = rw (after-snoc ls l ps)
-
-after-one : (s : List ℕ) (t : Terminal) (ls : List ℕ) → after ls (pathTo s t [] ∷ []) ≡ pathTo s t ls ∷ []
-unfolding after behind
-after-one s t [] = refl
-after-one s t (l ∷ ls) = rw (after-one s t ls)
+after-none [] = refl
+after-none (p ∷ ps) = rw (after-none ps)
 
 -- ---- an answer without a fault
 pub without-fault : {A P : Type 0} (a : Answer A) → faultIn a ≡ none → ((x : A) → a ≡ done x → P) → P
@@ -53,4 +52,4 @@ pub terminal-words : (s : List ℕ) (left e : ℕ) (t : Terminal) (labels : List
     → wordsFrom (gameOf s) left e labels ≡ recordOf (pathTo s t labels)
 unfolding records
 terminal-words s zero e t labels h ends = without-fault (paths (gameOf s) 0 e) h (λ ps p. absurd (refused-not-done (sym (depth-spent (gameOf s) e) ∙ p)))
-terminal-words s (suc k) e t labels h ends = words-are (gameOf s) (suc k) e labels _ (ends k) ∙ rw (after-one s t labels, append-nil)
+terminal-words s (suc k) e t labels h ends = words-are (gameOf s) (suc k) e labels _ (ends k) ∙ rw (after-one labels s t, append-nil)

@@ -12,6 +12,7 @@ use Rattle.answer.specs.Answer.{Answer, refused, done, _>>=_, faultIn}
 use Rattle.answer.specs.Refusals.{bufferTooShort, limitAbove}
 use Rattle.answer.proofs.FaultLaws.{given-true, given-false}
 use Rattle.answer.proofs.AnswerLaws.{refused-not-done, done-injective}
+use Rattle.answer.specs.Listing.{fitting, Outcome, outcome, leaves}
 use Rattle.game.specs.Game.{Game}
 use Rattle.sheet.specs.Meaning.{gameOf, opening, Opens}
 use Rattle.sheet.proofs.OpeningLaws.{opening-done}
@@ -21,11 +22,11 @@ use Rattle.path_counts.specs.declared.Size.{Size}
 use Rattle.path_counts.specs.Paths.{Path, paths, records}
 use Rattle.path_counts.specs.Counts.{cap, sized, sizeFrom}
 use Rattle.path_counts.specs.declared.Size.the-variants as Sizes
-use Rattle.paths.specs.declared.Written.{Written}
-use Rattle.paths.specs.declared.Written.the-variants.{Count, Refused}
-use Rattle.paths.specs.Listing.{fitting, listingFrom, listing, outcome, leaves}
-use Rattle.paths.specs.Writing.{after, wordsFrom}
-use Rattle.paths.proofs.AfterLaws.{words-are}
+use Rattle.answer.specs.declared.Written.{Written}
+use Rattle.answer.specs.declared.Written.the-variants.{Count, Refused}
+use Rattle.paths.specs.Listing.{listingFrom, listing}
+use Rattle.paths.specs.Writing.{wordsFrom}
+use Rattle.paths.proofs.AfterLaws.{after-none, words-are}
 
 -- ---- what is listed from a node
 module _ (g : Game) (depth e : ℕ) (out : List ℕ) where
@@ -62,19 +63,18 @@ module _ (g : Game) (depth e : ℕ) (out : List ℕ) where
 
       module _ (l : n ≤ length out) (small : length out < cap) where
         pub all-fit : (faultIn (paths g depth e) ≡ none) × (0 + length (wordsFrom g depth e []) ≤ length out)
-        unfolding after
         all-fit =
             counted-words n p
-            (λ ps h k. (ap faultIn h, rw (words-are g depth e [] ps h) (omega arith)))
+            (λ ps h k. (ap faultIn h, rw (words-are g depth e [] ps h, after-none) (omega arith)))
 
         pub all-listed : (end : ℕ) (out′ : List ℕ) → (end ≡ 0 + length (wordsFrom g depth e [])) × (out′ ≡ written out 0 (wordsFrom g depth e []))
             → leaves (Count end) out′ ≡ outcome out (listingFrom g depth e (length out))
-        unfolding after fitting outcome written
+        unfolding fitting outcome written
         all-listed end out′ (q, o) =
             counted-words n p
             (λ ps h k.
             let room : length (records ps) ≤ length out = omega arith in
-            rw (q, o, words-are g depth e [] ps h, listing-done ps h, fitting, le-ltb (length out) (length (records ps)) room, given-false _ _ refl, zero-add))
+            rw (q, o, words-are g depth e [] ps h, after-none, listing-done ps h, fitting, le-ltb (length out) (length (records ps)) room, given-false _ _ refl, zero-add))
 
 -- ---- the call
 module _ (s : List ℕ) (start limit : ℕ) (out : List ℕ) where
@@ -87,9 +87,10 @@ module _ (s : List ℕ) (start limit : ℕ) (out : List ℕ) where
     unfolding listing outcome
     opening-next r h = rw (listing, le-ltb 64 limit l, given-false _ _ refl, h)
 
-    pub then-listed : Opens s → (depth : ℕ) → depth ≡ depthOf limit → listing s start limit (length out) ≡ listingFrom (gameOf s) depth start (length out)
+    pub then-listed : Opens s → (depth : ℕ) → depth ≡ depthOf limit → {left : Outcome}
+        → left ≡ outcome out (listingFrom (gameOf s) depth start (length out)) → left ≡ outcome out (listing s start limit (length out))
     unfolding listing
-    then-listed ok depth h = rw (listing, le-ltb 64 limit l, given-false _ _ refl, opening-done s ok, h)
+    then-listed ok depth h p = rw (listing, le-ltb 64 limit l, given-false _ _ refl, opening-done s ok, ← h) p
 
 pub depth-zero : (limit : ℕ) → limit ≡ 0 → 32 ≡ depthOf limit
 unfolding depthOf

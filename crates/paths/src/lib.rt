@@ -8,28 +8,24 @@ ghost use lib.ListN.{length, take};
 ghost use Rattle.number.specs.Number.{toBits};
 ghost use Rattle.answer.specs.Answer.{faultIn};
 ghost use Rattle.answer.specs.Refusals.{refusal};
+ghost use Rattle.answer.specs.Listing.{outcome, leaves};
 ghost use Rattle.rows.specs.Store.{rowsFrom};
 ghost use Rattle.text.specs.Written.{written};
 ghost use Rattle.layout.specs.Layout.{rowCount};
 ghost use Rattle.sheet.specs.Meaning.{payoffRow, gameOf, Opens};
 ghost use Rattle.sheet.specs.Found.{InSheet};
 ghost use Rattle.path_counts.specs.Paths.{paths, recordOf};
-ghost use Rattle.paths.specs.Listing.{listingFrom, listing, outcome, leaves};
+ghost use Rattle.paths.specs.Listing.{listingFrom, listing};
 ghost use Rattle.paths.specs.Writing.{wordsFrom, pathTo, EndsAt};
 use answer::Check;
 use answer::Refusal;
+use answer::Written;
 use edges::ActionStep;
 use game::Kind;
 use path_counts::Size;
 use sheet::NodeFound;
 use sheet::Terminal;
 use sheet::TerminalFound;
-
-// How many u64s were written.
-pub enum Written {
-    Count(usize),
-    Refused(Refusal),
-}
 
 // The labels so far, at a place of the buffer; the answer is the place after them.
 fn write_labels(out: &mut [u64], at: usize, labels: &[u32], count: usize) -> usize

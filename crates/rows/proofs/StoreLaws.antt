@@ -11,6 +11,9 @@ use native.Mathlib.Omega.{arith}
 use borrow.Author.Tests.{eq-eqb, ne-eqb, eqb-true, eqb-false}
 use lib.Dec.{eqb}
 use lib.ListN.{length, getD}
+use Rattle.answer.specs.Fault.{Fault, first, firstIn}
+use Rattle.answer.proofs.FaultLaws.{▹-none}
+use Rattle.answer.proofs.ListFaults.{first-append}
 use Rattle.rows.specs.Rows.{entityAt, findRow, repeated}
 use Rattle.rows.specs.Store.{rowsFrom, allRows, get}
 use Rattle.rows.proofs.RowLaws.{found-in, found-first, none-named, find-own}
@@ -33,6 +36,16 @@ module _ {R : Type 0} (row : ℕ → R) where
   unfolding rowsFrom
   rows-append i zero k = simp (add-zero, zero-add)
   rows-append i (suc j) k = rw (suc-add j k, add-suc i j, ← suc-add i j) (ap (λ l. row i ∷ l) (rows-append (suc i) j k))
+
+  -- the first fault in it is the first by row number
+  pub first-rows : (f : R → Fault) (n : ℕ) → firstIn f (allRows row n) ≡ first n (λ i. f (row i))
+  unfolding firstIn first rowsFrom
+  first-rows f zero = refl
+  first-rows f (suc n) =
+      ap (λ k. firstIn f (rowsFrom row 0 k)) (sym (add-one n))
+      ∙ ap (firstIn f) (rows-append 0 n 1)
+      ∙ first-append f (rowsFrom row 0 n) (rowsFrom row (0 + n) 1)
+      ∙ rw (first-rows f n, zero-add n, ▹-none (f (row n)))
 
   pub length-rows : (i k : ℕ) → length (rowsFrom row i k) ≡ k
   unfolding rowsFrom

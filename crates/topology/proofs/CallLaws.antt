@@ -11,13 +11,13 @@ use Rattle.answer.specs.declared.Check.{Check}
 use Rattle.answer.specs.declared.Check.the-variants.{Passed, Refused}
 use Rattle.answer.specs.Fault.{Fault, faultOf}
 use Rattle.answer.specs.Answer.{refused, done, unless}
+use Rattle.answer.proofs.Loops.{refused-first, passed-first}
 use Rattle.rows.proofs.StoreLaws.{length-rows}
 use Rattle.layout.specs.Layout.{rootOf, rowCount}
 use Rattle.sheet.specs.Meaning.{nodeRow, gameOf, opening, Opens}
 use Rattle.sheet.proofs.OpeningLaws.{opening-done}
 use Rattle.topology.specs.Topology.{targetsFault, walkFault, topologyFault, topology, checked}
 use Rattle.topology.specs.Marks.{Way, Marks, Visits}
-use Rattle.topology.proofs.ListLaws.{refused-first, passed-first}
 use Rattle.topology.proofs.PathLaws.{in-nil, fresh-none}
 use Rattle.topology.proofs.NodeRows.{most-nodes}
 

@@ -8,11 +8,11 @@ use native.Mathlib.Nat.{zero-add, suc-add}
 use native.Mathlib.Omega.{arith}
 use lib.ListN.{length}
 use Rattle.answer.specs.Fault.{Fault}
+use Rattle.answer.proofs.ListFaults.{first-same}
 use Rattle.game.specs.Game.{Game}
 use Rattle.graph_relations.specs.Relations.{childrenOf}
 use Rattle.topology.specs.Topology.{isIn, missing, walkFault}
 use Rattle.topology.specs.Marks.{fresh}
-use Rattle.topology.proofs.ListLaws.{first-same}
 use Rattle.topology.proofs.PathLaws.{fresh-none, fresh-falls}
 use Rattle.topology.proofs.WalkLaws.{node-in, walk-cycle, walk-missing, walk-new}
 

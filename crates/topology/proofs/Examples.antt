@@ -3,14 +3,14 @@ use Prim.Native.Nat.{ℕ}
 use mathlib.Core.Path.{_≡_, refl}
 use mathlib.Core.List.{List, [], _∷_, filterMap}
 use mathlib.Core.Option.{none, some}
-use Rattle.answer.specs.Fault.{given, _▹_}
+use Rattle.answer.specs.Fault.{given, _▹_, firstIn}
 use Rattle.answer.specs.Refusals.{missingNode, cycleDetected, missingTerminalUtility, noOutgoingChanceOutcomes}
 use Rattle.rows.specs.Store.{get}
 use Rattle.graph_relations.specs.Relations.{ChildRow, childIn, childrenOf}
 use Rattle.game.specs.declared.Kind.the-variants as Kinds
 use Rattle.game.specs.declared.ActionEdge.{ActionEdge}
 use Rattle.game.specs.Game.{Game, Chance, TerminalUtility, nodeOf, kindOf, chanceOf, terminalOf}
-use Rattle.topology.specs.Topology.{firstIn, isIn, missing, targetsFault, anyChance, kindFault, walkFault, topologyFault}
+use Rattle.topology.specs.Topology.{isIn, missing, targetsFault, anyChance, kindFault, walkFault, topologyFault}
 
 abbrev child : ℕ → ℕ → ChildRow
 child e parent = record { entity = e; childOf = record { 0 = parent } }

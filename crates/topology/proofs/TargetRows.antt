@@ -2,13 +2,13 @@
 use Prim.Native.Nat.{ℕ}
 use mathlib.Core.Path.{_≡_, refl}
 use mathlib.Core.List.{List}
-use Rattle.answer.specs.Fault.{Fault, first, _▹_}
+use Rattle.answer.specs.Fault.{Fault, first, _▹_, firstIn}
+use Rattle.rows.proofs.StoreLaws.{first-rows}
 use Rattle.layout.specs.Layout.{rootOf, rowCount, field}
 use Rattle.game.specs.declared.ActionEdge.{ActionEdge}
 use Rattle.game.specs.Game.{Chance}
 use Rattle.sheet.specs.Meaning.{actionRow, chanceRow, gameOf}
-use Rattle.topology.specs.Topology.{firstIn, missing, targetsFault}
-use Rattle.topology.proofs.ListLaws.{first-rows}
+use Rattle.topology.specs.Topology.{missing, targetsFault}
 
 module _ (s : List ℕ) where
   -- the first fault among the targets of section k
@@ -17,11 +17,11 @@ module _ (s : List ℕ) where
 
   actions-by-row : firstIn (λ (a : ActionEdge). missing (gameOf s) (a .target)) (gameOf s .actions) ≡ targetsOf 2
   unfolding gameOf actionRow
-  actions-by-row = first-rows (λ (a : ActionEdge). missing (gameOf s) (a .target)) (actionRow s) (rowCount s 2)
+  actions-by-row = first-rows (actionRow s) (λ (a : ActionEdge). missing (gameOf s) (a .target)) (rowCount s 2)
 
   chances-by-row : firstIn (λ (c : Chance). missing (gameOf s) (c .target)) (gameOf s .chances) ≡ targetsOf 3
   unfolding gameOf chanceRow
-  chances-by-row = first-rows (λ (c : Chance). missing (gameOf s) (c .target)) (chanceRow s) (rowCount s 3)
+  chances-by-row = first-rows (chanceRow s) (λ (c : Chance). missing (gameOf s) (c .target)) (rowCount s 3)
 
   root-is : gameOf s .root ≡ rootOf s
   unfolding gameOf

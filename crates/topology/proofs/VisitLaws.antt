@@ -11,17 +11,17 @@ use lib.ListN.{getD, set}
 use Rattle.answer.specs.declared.Refusal.{Refusal}
 use Rattle.answer.specs.declared.Check.{Check}
 use Rattle.answer.specs.declared.Check.the-variants.{Passed, Refused}
-use Rattle.answer.specs.Fault.{Fault, faultOf}
+use Rattle.answer.specs.Fault.{Fault, faultOf, firstIn}
 use Rattle.answer.specs.Refusals.{missingNode, cycleDetected}
+use Rattle.answer.proofs.ListFaults.{first-empty, first-passes, first-stops}
 use Rattle.layout.specs.Layout.{rowCount}
 use Rattle.graph_relations.specs.declared.Child.{Child}
 use Rattle.graph_relations.specs.declared.Child.the-variants.{Of, Other}
 use Rattle.graph_relations.specs.Relations.{childIn, childrenOf, childOf}
 use Rattle.graph_relations.specs.RelationRows.{childRow}
 use Rattle.sheet.specs.Meaning.{nodeRow, gameOf, Opens}
-use Rattle.topology.specs.Topology.{firstIn, isIn, missing, kindFault, walkFault}
+use Rattle.topology.specs.Topology.{isIn, missing, kindFault, walkFault}
 use Rattle.topology.specs.Marks.{Way, Marks, Visit, Visits}
-use Rattle.topology.proofs.ListLaws.{first-empty, first-passes, first-stops}
 use Rattle.topology.proofs.WalkLaws.{not-missing, walk-cycle, walk-missing, walk-kind, walk-below, way-on, walk-sound, sound-walk}
 use Rattle.topology.proofs.ChildrenLeft.{childrenLeft, left-all, left-child, left-none, left-skips, left-gives}
 use Rattle.topology.proofs.NodeRows.{NodeAt}

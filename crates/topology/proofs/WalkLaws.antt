@@ -7,9 +7,10 @@ use mathlib.Core.Option.{Option, none, some, Option·some-ne-none}
 use native.Mathlib.Omega.{arith}
 use borrow.Author.Tests.{not-false}
 use Rattle.answer.specs.declared.Refusal.{Refusal}
-use Rattle.answer.specs.Fault.{given, _▹_}
+use Rattle.answer.specs.Fault.{given, _▹_, firstIn}
 use Rattle.answer.specs.Refusals.{missingNode, cycleDetected, missingTerminalUtility, noOutgoingChanceOutcomes}
 use Rattle.answer.proofs.FaultLaws.{none-▹, some-▹, ▹-left, ▹-right, given-true, given-false, given-none}
+use Rattle.answer.proofs.ListFaults.{first-in-none, none-in-first}
 use Rattle.rows.specs.Rows.{isSome}
 use Rattle.rows.proofs.StoreLaws.{get-in}
 use Rattle.graph_relations.specs.Relations.{childrenOf}
@@ -17,9 +18,8 @@ use Rattle.game.specs.declared.Kind.{Kind}
 use Rattle.game.specs.declared.Kind.the-variants as Kinds
 use Rattle.game.specs.declared.Node.{Node}
 use Rattle.game.specs.Game.{Game, TerminalUtility, nodeOf, kindIn, kindOf, terminalOf}
-use Rattle.topology.specs.Topology.{firstIn, isIn, missing, anyChance, kindFault, walkFault}
+use Rattle.topology.specs.Topology.{isIn, missing, anyChance, kindFault, walkFault}
 use Rattle.topology.specs.Marks.{Sound, sound, Leads, child, through, Way}
-use Rattle.topology.proofs.ListLaws.{first-in-none, none-in-first}
 use Rattle.topology.proofs.PathLaws.{in-cases, fresh-falls}
 
 module _ (g : Game) where

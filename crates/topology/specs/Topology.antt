@@ -6,7 +6,7 @@ use mathlib.Core.Option.{Option, none, some}
 use lib.ListN.{length}
 use lib.Dec.{eqb}
 use Rattle.answer.specs.declared.Check.{Check}
-use Rattle.answer.specs.Fault.{Fault, given, _▹_, faultOf}
+use Rattle.answer.specs.Fault.{Fault, given, _▹_, firstIn, faultOf}
 use Rattle.answer.specs.Answer.{Answer, done, unless, _>>=_}
 use Rattle.answer.specs.Refusals.{missingNode, cycleDetected, missingTerminalUtility, noOutgoingChanceOutcomes}
 use Rattle.rows.specs.Rows.{isSome}
@@ -16,11 +16,6 @@ use Rattle.game.specs.declared.Kind.the-variants as Kinds
 use Rattle.game.specs.declared.ActionEdge.{ActionEdge}
 use Rattle.game.specs.Game.{Game, Chance, kindOf, terminalOf, chanceOf}
 use Rattle.sheet.specs.Meaning.{opening}
-
--- the first fault among those of a list's elements
-unfoldable pub firstIn : {A : Type 0} → (A → Fault) → List A → Fault
-firstIn f [] = none
-firstIn f (x ∷ xs) = f x ▹ firstIn f xs
 
 unfoldable pub isIn : ℕ → List ℕ → Bool
 isIn e [] = false

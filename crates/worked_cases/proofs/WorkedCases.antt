@@ -4,7 +4,7 @@ use mathlib.Core.List.{filterMap, zipWith}
 use lib.Count.{trailingZeros}
 use lib.Ieee.{ofBits, ofFields, odd}
 use Rattle.number.specs.Number.{fromBits, fromFields, toBits, plus, times, less, overflow, roundToNearestEven, excessDigits}
-use Rattle.answer.specs.Fault.{first, given, _▹_}
+use Rattle.answer.specs.Fault.{first, given, _▹_, firstIn}
 use Rattle.answer.specs.Answer.{collect}
 use Rattle.little_endian.specs.LittleEndian.{littleEndian, bytesOf}
 use Rattle.rows.specs.Rows.{rowsIn, u32Field, u64Field, findRow, repeated}
@@ -21,7 +21,7 @@ use Rattle.backward_induction.specs.Solve.{reply, better, best, bestOf, taken, 
 use Rattle.backward_induction.specs.Call.{depthOf, solution}
 use Rattle.path_counts.specs.Paths.{along, byEdges, pathsAt, paths}
 use Rattle.paths.specs.Listing.{listing, listingFrom}
-use Rattle.topology.specs.Topology.{firstIn, isIn, missing, targetsFault, anyChance, kindFault, walkFault, topologyFault, topology}
+use Rattle.topology.specs.Topology.{isIn, missing, targetsFault, anyChance, kindFault, walkFault, topologyFault, topology}
 use Rattle.kuhn.specs.Solve as Kuhn
 use Rattle.kuhn.specs.Solve.{kuhn}
 use Rattle.worked.specs.Written.{u32s, f64s, pairs, joined, written}

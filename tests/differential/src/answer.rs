@@ -86,6 +86,14 @@ impl Call {
         }
     }
 
+    /// The length of the buffer that the call is lent; 0 where it takes none.
+    pub fn room(&self) -> usize {
+        match *self {
+            Call::Paths { room, .. } | Call::Sets { room } => room,
+            _ => 0,
+        }
+    }
+
     /// This call's answer when it is refused: every other member 0, the buffer as it was.
     pub fn refused(&self, refusal: Refusal) -> Answer {
         match *self {

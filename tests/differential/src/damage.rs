@@ -41,6 +41,19 @@ pub fn any_entity(draft: &Draft, random: &mut Random) -> u32 {
     field(&rows[random.below(rows.len())], 0)
 }
 
+/// A start and a limit of any kind.
+pub fn any_place(draft: &Draft, random: &mut Random) -> (u32, u64) {
+    let start = if random.one_in(4) { any_entity(draft, random) } else { draft.root };
+    let limit = match random.below(40) {
+        0 => 65 + random.next() % 100,
+        1 => random.next(),
+        2..=14 => 0,
+        15..=26 => 64,
+        _ => random.between(1, 64) as u64,
+    };
+    (start, limit)
+}
+
 /// Changes one thing about the rows.
 pub fn change_rows(draft: &mut Draft, random: &mut Random) {
     let section = random.below(10);

@@ -13,25 +13,24 @@ extern "C" {
     fn kgs_kuhn_linear_cfr(iterations: u64) -> Kuhn;
 }
 
-/// The library's answer to a call on these bytes.
+/// The library's answer to a call on these bytes; a buffer that it is lent has the guard after it.
 pub fn answer(call: &Call, sheet: &[u8]) -> Answer {
+    answer_in(call, sheet, lent(call.room()))
+}
+
+/// The library's answer to a call on these bytes; the buffer that it is lent is the front of `buffer`.
+pub fn answer_in(call: &Call, sheet: &[u8], mut buffer: Vec<u64>) -> Answer {
     let (bytes, len) = (sheet.as_ptr(), sheet.len());
-    // SAFETY: `bytes` and the lent buffers point to as many elements as the lengths beside them say, and outlive the
+    let (out, room) = (buffer.as_mut_ptr(), call.room());
+    assert!(room <= buffer.len(), "the buffer has the call's room");
+    // SAFETY: `bytes` and `out` point to at least as many elements as the lengths beside them say, and outlive the
     // call.
     unsafe {
         match *call {
             Call::Solve { start, limit } => Answer::Solution(kgs_solve(bytes, len, start, limit)),
             Call::SolvePlain { start, limit } => Answer::Solution(kgs_solve_plain(bytes, len, start, limit)),
-            Call::Paths { start, limit, room } => {
-                let mut buffer = lent(room);
-                let written = kgs_paths(bytes, len, start, limit, buffer.as_mut_ptr(), room);
-                Answer::Written(written, buffer)
-            }
-            Call::Sets { room } => {
-                let mut buffer = lent(room);
-                let written = kgs_sets(bytes, len, buffer.as_mut_ptr(), room);
-                Answer::Written(written, buffer)
-            }
+            Call::Paths { start, limit, .. } => Answer::Written(kgs_paths(bytes, len, start, limit, out, room), buffer),
+            Call::Sets { .. } => Answer::Written(kgs_sets(bytes, len, out, room), buffer),
             Call::Topology => Answer::Topology(kgs_topology(bytes, len)),
             Call::Kuhn { variant, iterations } => Answer::Kuhn(match variant {
                 Variant::Vanilla => kgs_kuhn_vanilla(iterations),

@@ -140,18 +140,7 @@ fn make(random: &mut Random) -> (Draft, Vec<u8>) {
 
 /// Calls on a sheet: starts and limits of all kinds, buffers that are just long enough, one short, or anything.
 fn calls(draft: &Draft, subject: &Subject, random: &mut Random) -> Vec<Call> {
-    let mut place = || {
-        let start = if random.one_in(4) { damage::any_entity(draft, random) } else { draft.root };
-        let limit = match random.below(40) {
-            0 => 65 + random.next() % 100,
-            1 => random.next(),
-            2..=14 => 0,
-            15..=26 => 64,
-            _ => random.between(1, 64) as u64,
-        };
-        (start, limit)
-    };
-    let places = [(); 5].map(|_| place());
+    let places = [(); 5].map(|_| damage::any_place(draft, random));
     let mut room = |words: Option<u64>| match words.filter(|&words| words <= MOST_ROOM) {
         Some(words) => match random.below(6) {
             0 => random.below(words as usize + 1),

@@ -1,9 +1,7 @@
 -- `paths` answers 27, then the refusals of opening, and then what `list_paths` does at the limit's depth.
-use mathlib.Core.Path.{sym, ap, _∙_}
 use native.Mathlib.Omega.{arith}
 use borrow.Author.Needs.{needs}
 use Rattle.sheet.proofs.OpeningLaws.{passed-opens, refused-opening}
-use Rattle.paths.specs.Listing.{outcome}
 use Rattle.paths.proofs.CallLaws.{limit-first, opening-next, then-listed, depth-zero, depth-given}
 use Rattle.paths.proofs.paths.Statement.{statement}
 use Rattle.paths.proofs.paths.Tie as tie
@@ -34,10 +32,8 @@ same-length c = search needs
 
 returns-3 : tie.Need-returns-3
 returns-3 c =
-    let start = c .before .before .before .before .before .before .before .before .before .before .before .args in
-    let ok = passed-opens _ _ (c .before .before .before .before .before .before .before .open .ensures) (c .before .before .before .before .before .enum-told .given .1) in
-    c .before .before .list-paths .ensures
-    ∙ ap (outcome (start .out .now)) (sym (then-listed _ _ _ (start .out .now) (c .before .before .before .before .before .before .before .before .if1 .left) ok _ (depth-zero _ (c .before .before .before .before .if2 .taken))))
+    then-listed _ _ _ _ (c .before .before .before .before .before .before .before .before .if1 .left) (passed-opens _ _ (c .before .before .before .before .before .before .before .open .ensures) (c .before .before .before .before .before .enum-told .given .1)) _
+    (depth-zero _ (c .before .before .before .before .if2 .taken)) (c .before .before .list-paths .ensures)
 
 list-paths-requires-2 : tie.Need-list-paths-requires-2
 list-paths-requires-2 c κs = (passed-opens _ _ (c .before .before .before .before .open .ensures) (c .before .before .enum-told .given .1), c .before .before .before .before .before .if1 .left)
@@ -47,10 +43,8 @@ same-length-2 c = search needs
 
 returns-4 : tie.Need-returns-4
 returns-4 c =
-    let start = c .before .before .before .before .before .before .before .before .before .before .before .args in
-    let ok = passed-opens _ _ (c .before .before .before .before .before .before .before .open .ensures) (c .before .before .before .before .before .enum-told .given .1) in
-    c .before .before .list-paths2 .ensures
-    ∙ ap (outcome (start .out .now)) (sym (then-listed _ _ _ (start .out .now) (c .before .before .before .before .before .before .before .before .if1 .left) ok _ (depth-given _ (c .before .before .before .before .if2 .left))))
+    then-listed _ _ _ _ (c .before .before .before .before .before .before .before .before .if1 .left) (passed-opens _ _ (c .before .before .before .before .before .before .before .open .ensures) (c .before .before .before .before .before .enum-told .given .1)) _
+    (depth-given _ (c .before .before .before .before .if2 .left)) (c .before .before .list-paths2 .ensures)
 
 pub paths-spec : {M : Type 1} → statement M
 paths-spec =

@@ -1,11 +1,11 @@
 -- `check_targets` finds the first among the root and the targets that is no node.
 use mathlib.Core.Path.{sym, ap, _∙_}
 use borrow.Author.Needs.{needs}
+use Rattle.answer.proofs.Loops.{refused-first, passed-first}
 use Rattle.layout.specs.Layout.{width}
 use Rattle.sheet.specs.Meaning.{gameOf}
 use Rattle.sheet.proofs.OpeningLaws.{opens-layout}
 use Rattle.topology.specs.Topology.{missing}
-use Rattle.topology.proofs.ListLaws.{refused-first, passed-first}
 use Rattle.topology.proofs.TargetRows.{targets-by-row}
 use Rattle.topology.proofs.check_targets.Statement.{statement}
 use Rattle.topology.proofs.check_targets.Tie as tie

@@ -9,7 +9,7 @@ use Rattle.sheet.specs.Meaning.{gameOf}
 use Rattle.sheet.proofs.OpeningLaws.{opens-layout}
 use Rattle.topology.specs.Topology.{anyChance}
 use Rattle.topology.proofs.ChildrenLeft.{childrenLeft, left-all, left-none, left-skips, left-gives}
-use Rattle.topology.proofs.ListLaws.{any-none, any-here, any-later}
+use Rattle.topology.proofs.AnyChance.{any-none, any-here, any-later}
 use Rattle.topology.proofs.has_chance.Statement.{statement}
 use Rattle.topology.proofs.has_chance.Tie as tie
 
