@@ -63,6 +63,14 @@ taken r = record { terminal = r .solution .terminal; actions = r .edge .label �
 unfoldable pub products : Number → List Number → List Number
 products p vs = map (times p) vs
 
+unfoldable pub allFinite : List Number → Bool
+allFinite [] = true
+allFinite (v ∷ vs) = isFinite v && allFinite vs
+
+-- 25 where a payoff is out of range
+unfoldable pub inRange : ℕ → List Number → Answer (List Number)
+inRange e vs = elim (allFinite vs) [ true ↦ done vs | false ↦ refused (outOfRange e) ]
+
 -- one more outcome's products on the sums so far
 unfoldable pub added : ℕ → List Number → Number → List Number → Answer (List Number)
 added e sums p vs =
@@ -80,17 +88,10 @@ unfoldable pub sumsOf : Solver → ℕ → List Chance → Answer (List Number)
 sumsOf f e [] = refused (noOutgoingChanceOutcomes e)
 sumsOf f e (o ∷ os) = f (o .target) >>= λ s. sumsOn f e (products (o .probability) (s .payoffs)) os
 
-unfoldable pub allFinite : List Number → Bool
-allFinite [] = true
-allFinite (v ∷ vs) = isFinite v && allFinite vs
-
--- 25 only after all outcomes
-unfoldable pub inRange : ℕ → List Number → Answer (List Number)
-inRange e vs = elim (allFinite vs) [ true ↦ done vs | false ↦ refused (outOfRange e) ]
-
 -- ---- the solve of a game
 
 module _ (g : Game) where
+  -- 25 only after all outcomes
   unfoldable pub atChance : Method → Solver → ℕ → Answer Solution
   atChance Methods.ChanceWeighted f e =
       outgoingChanceOutcomes g e >>= λ os.
