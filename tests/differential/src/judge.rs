@@ -17,7 +17,7 @@ const MOST_ITERATIONS: u64 = 1_000_000;
 pub struct Subject {
     pub bytes: Vec<u8>,
     pub game: Result<Game, Refusal>,
-    stores: Result<Stores, Refusal>,
+    pub stores: Result<Stores, Refusal>,
 }
 
 impl Subject {

@@ -3,14 +3,14 @@
 use crate::answer::{lent, Answer, Call, Kuhn, Refusal, Solution, Variant, Written};
 
 extern "C" {
-    fn kgs_solve(sheet: *const u8, len: usize, start: u32, limit: u64) -> Solution;
-    fn kgs_solve_plain(sheet: *const u8, len: usize, start: u32, limit: u64) -> Solution;
-    fn kgs_paths(sheet: *const u8, len: usize, start: u32, limit: u64, out: *mut u64, out_len: usize) -> Written;
-    fn kgs_sets(sheet: *const u8, len: usize, out: *mut u64, out_len: usize) -> Written;
-    fn kgs_topology(sheet: *const u8, len: usize) -> Refusal;
-    fn kgs_kuhn_vanilla(iterations: u64) -> Kuhn;
-    fn kgs_kuhn_cfr_plus(iterations: u64) -> Kuhn;
-    fn kgs_kuhn_linear_cfr(iterations: u64) -> Kuhn;
+    pub fn kgs_solve(sheet: *const u8, len: usize, start: u32, limit: u64) -> Solution;
+    pub fn kgs_solve_plain(sheet: *const u8, len: usize, start: u32, limit: u64) -> Solution;
+    pub fn kgs_paths(sheet: *const u8, len: usize, start: u32, limit: u64, out: *mut u64, out_len: usize) -> Written;
+    pub fn kgs_sets(sheet: *const u8, len: usize, out: *mut u64, out_len: usize) -> Written;
+    pub fn kgs_topology(sheet: *const u8, len: usize) -> Refusal;
+    pub fn kgs_kuhn_vanilla(iterations: u64) -> Kuhn;
+    pub fn kgs_kuhn_cfr_plus(iterations: u64) -> Kuhn;
+    pub fn kgs_kuhn_linear_cfr(iterations: u64) -> Kuhn;
 }
 
 /// The library's answer to a call on these bytes; a buffer that it is lent has the guard after it.

@@ -38,15 +38,15 @@ fn is_out_of_range(payload: &dyn Any) -> bool {
 /// its number in decimal, so that the answer tells labels of equal text apart.
 #[derive(Default)]
 pub struct Stores {
-    root: u32,
-    nodes: ComponentStore<ExtensiveNode>,
-    child_of: ComponentStore<ChildOf>,
-    actions_by_number: ComponentStore<ActionEdge>,
-    actions_by_text: ComponentStore<ActionEdge>,
-    chance_outcomes: ComponentStore<ChanceOutcome>,
-    transitions: ComponentStore<TransitionTo>,
-    terminals: ComponentStore<TerminalUtility>,
-    information_sets: ComponentStore<InformationSet>,
+    pub root: u32,
+    pub nodes: ComponentStore<ExtensiveNode>,
+    pub child_of: ComponentStore<ChildOf>,
+    pub actions_by_number: ComponentStore<ActionEdge>,
+    pub actions_by_text: ComponentStore<ActionEdge>,
+    pub chance_outcomes: ComponentStore<ChanceOutcome>,
+    pub transitions: ComponentStore<TransitionTo>,
+    pub terminals: ComponentStore<TerminalUtility>,
+    pub information_sets: ComponentStore<InformationSet>,
 }
 
 impl Stores {
