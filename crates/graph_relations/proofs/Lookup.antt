@@ -1,4 +1,4 @@
--- The lookup of an entity in the rows of any section: what layout's `find_row` found is what the store's `get` gives.
+-- The lookup of an entity in the rows of any section: what a `find_row` found is what the store's `get` gives.
 use Prim.Native.Nat.{ℕ, _<_}
 use mathlib.Core.Path.{_≡_, sym, ap, _∙_}
 use mathlib.Core.List.{List}

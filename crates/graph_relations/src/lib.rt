@@ -3,6 +3,7 @@ ghost use mathlib.Core.Path.{_≡_};
 ghost use mathlib.Core.Option.{none};
 ghost use Prim.Native.Nat.{_<_};
 ghost use Rattle.layout.specs.Layout.{layoutFault, rowCount};
+ghost use Rattle.opening.specs.SheetFault.{sheetFault};
 ghost use Rattle.graph_relations.specs.Relations.{childIn, childOf, target, transitionTarget};
 ghost use Rattle.graph_relations.specs.RelationRows.{childRow, transitionRow, transitionRows};
 use layout::u32_field;
@@ -68,10 +69,10 @@ pub fn children_of(sheet: &[u8], parent: u32, i: usize) -> Child
 }
 
 pub fn transition_target(sheet: &[u8], entity: u32) -> Target
-    requires { ⌜ layoutFault (now sheet) ≡ none ⌝ }
+    requires { ⌜ sheetFault (now sheet) ≡ none ⌝ }
     ensures { λ r. ⌜ target r ≡ transitionTarget entity (transitionRows (now (sheet .entry))) ⌝ }
 {
-    match layout::find_row(sheet, 4, entity) {
+    match opening::find_row(sheet, 4, entity) {
         Found::At(i) => Target::To(transition_to(sheet, i).target()),
         Found::Nothing => Target::Missing,
     }

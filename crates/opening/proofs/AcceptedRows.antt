@@ -8,7 +8,7 @@ use native.Mathlib.Omega.{arith}
 use borrow.Author.Tests.{ltb-true}
 use lib.Dec.{ltb}
 use Rattle.answer.proofs.FaultLaws.{▹-left, ▹-right, first-at, given-none}
-use Rattle.rows.specs.Rows.{repeated}
+use Rattle.rows.specs.Rows.{Distinct}
 use Rattle.rows.proofs.RowLaws.{no-repeats}
 use Rattle.layout.specs.Layout.{width, layoutFault, section, rowCount, field}
 use Rattle.opening.specs.Faults.{fieldsFault}
@@ -18,7 +18,7 @@ left-true : (a b : Bool) → a && b ≡ true → a ≡ true
 left-true true b e = refl
 left-true false b e = absurd (false≢true e)
 
-entity-section : (k : ℕ) → hasEntity k ≡ true → k < 10
+pub entity-section : (k : ℕ) → hasEntity k ≡ true → k < 10
 unfolding hasEntity
 entity-section k e = omega (arith, ltb-true k 8 (left-true (ltb k 8) _ e))
 
@@ -52,7 +52,7 @@ module _ (s : List ℕ) (ok : sheetFault s ≡ none) where
   row-of k l i h = record { section-number = l; laid-out = layout-ok; row = h }
 
   -- no entity stands twice
-  pub not-repeated : (k : ℕ) → hasEntity k ≡ true → (i : ℕ) → i < rowCount s k → repeated (width s k) (section s k) i ≡ false
+  pub not-repeated : (k : ℕ) → hasEntity k ≡ true → Distinct (width s k) (section s k) (rowCount s k)
   unfolding rowFault
   not-repeated k e i h =
       let new = given-none _ _ (▹-left _ _ (row-ok k (entity-section k e) i h)) in

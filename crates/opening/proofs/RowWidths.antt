@@ -6,11 +6,12 @@ use mathlib.Core.List.{List}
 use native.Mathlib.Omega.{arith}
 use borrow.Author.Tests.{not-false}
 use lib.ListN.{length}
-use Rattle.rows.specs.Rows.{rowsIn, Below}
+use Rattle.rows.specs.declared.Bounds.{Bounds}
+use Rattle.rows.specs.Rows.{rowsIn, Within}
 use Rattle.layout.specs.Layout.{width, section, rowCount}
 use Rattle.layout.proofs.Sections.{each-section}
 use Rattle.layout.proofs.LayoutLaws.{size-least}
-use Rattle.opening.specs.SheetFault.{hasEntity, RowOf, Topped}
+use Rattle.opening.specs.SheetFault.{hasEntity, RowOf, Bounded}
 
 pub record RowWidths (s : List ℕ) : Type 0 where
   pub nodes : 12 ≤ width s 0
@@ -52,9 +53,9 @@ module _ {s : List ℕ} {k i : ℕ} (r : RowOf s k i) where
   pub width-asked : (k < 10) × (92 ≤ length s)
   width-asked = (r .section-number, size-least s (r .laid-out))
 
-  -- what `is_repeated` and `raised` ask of the section's bytes and its width, where the section names entities
-  pub entity-asked : {top w : ℕ} {rows : List ℕ} {b : Bool} → Topped s k i top → b ≡ hasEntity k → not b ≡ false → w ≡ width s k → rows ≡ section s k
-      → (i < rowsIn w rows) × (4 ≤ w) × Below w rows i top
+  -- what `is_repeated` and `widened` ask of the section's bytes and its width, where the section names entities
+  pub entity-asked : {seen : Bounds} {w : ℕ} {rows : List ℕ} {b : Bool} → Bounded s k i seen → b ≡ hasEntity k → not b ≡ false → w ≡ width s k → rows ≡ section s k
+      → (i < rowsIn w rows) × (4 ≤ w) × Within w rows i seen
   unfolding rowCount
   entity-asked t e f p q =
       let named : hasEntity k ≡ true = sym e ∙ not-false _ f in

@@ -8,7 +8,8 @@ use lib.Dec.{ltb, eqb}
 use Rattle.answer.specs.Fault.{Fault, first, given, _▹_}
 use Rattle.answer.specs.Refusals.{badRow}
 use Rattle.layout.specs.Layout.{width, layoutFault, section, rowCount, field}
-use Rattle.rows.specs.Rows.{repeated, Below}
+use Rattle.rows.specs.declared.Bounds.{Bounds}
+use Rattle.rows.specs.Rows.{repeated, Within}
 use Rattle.opening.specs.Faults.{fieldsFault}
 
 -- sections 0 to 5 and 7 name an entity in each row
@@ -44,6 +45,6 @@ pub record RowOf (s : List ℕ) (k i : ℕ) : Type 0 where
   pub laid-out : layoutFault s ≡ none
   pub row : i < rowCount s k
 
--- where section k names entities, those above row i are below top
-abbrev pub Topped : List ℕ → ℕ → ℕ → ℕ → Type 0
-Topped s k i top = hasEntity k ≡ true → Below (width s k) (section s k) i top
+-- where section k names entities, those above row i are within the bounds
+abbrev pub Bounded : List ℕ → ℕ → ℕ → Bounds → Type 0
+Bounded s k i b = hasEntity k ≡ true → Within (width s k) (section s k) i b

@@ -1,13 +1,13 @@
 // The rows of a sheet: what opening it checks after its layout.
 ghost use mathlib.Core.Path.{_≡_};
 ghost use mathlib.Core.Option.{none};
-ghost use mathlib.Core.Bool.{_&&_};
+ghost use mathlib.Core.Bool.{true, _&&_};
 ghost use Prim.Native.Nat.{_+_, _%_, _≤_, _<_};
 ghost use Rattle.answer.specs.Fault.{faultOf, first};
-ghost use Rattle.rows.specs.Rows.{repeated};
+ghost use Rattle.rows.specs.Rows.{repeated, findRow, foundAt};
 ghost use Rattle.layout.specs.Layout.{width, layoutFault, section, rowCount};
 ghost use Rattle.opening.specs.Faults.{nodeFault, labelFault, chanceFault, terminalFault, payoffFault, setFault, labelEnd, previousEnd, labelRowFault, textFault, fieldsFault};
-ghost use Rattle.opening.specs.SheetFault.{hasEntity, rowFault, payoffStart, totalFault, rowsFault, sheetFault, RowOf, Topped};
+ghost use Rattle.opening.specs.SheetFault.{hasEntity, rowFault, payoffStart, totalFault, rowsFault, sheetFault, RowOf, Bounded};
 use answer::Check;
 use answer::refuse;
 use layout::row_count;
@@ -15,6 +15,7 @@ use layout::section_of;
 use layout::u32_field;
 use layout::u64_field;
 use layout::width_of;
+use rows::Bounds;
 
 const NO_PLAYER: u32 = 4294967295;
 
@@ -183,51 +184,55 @@ fn has_entity(k: usize) -> bool
     k != 6
 }
 
-// Whether an earlier row names row i's entity; the entities above row i are below top.
-fn repeats(sheet: &[u8], k: usize, i: usize, top: u64) -> bool
-    requires { ⌜ RowOf (now sheet) k i × Topped (now sheet) k i top ⌝ }
+// Whether an earlier row names row i's entity, which is new outside the bounds of the earlier ones.
+fn repeats(sheet: &[u8], k: usize, i: usize, seen: Bounds) -> bool
+    requires { ⌜ RowOf (now sheet) k i × Bounded (now sheet) k i seen ⌝ }
     ensures { λ r. ⌜ r ≡ (hasEntity k && repeated (width (now (sheet .entry)) k) (section (now (sheet .entry)) k) i) ⌝ }
 {
     if !has_entity(k) {
         return false;
     }
-    rows::is_repeated(section_of(sheet, k), width_of(sheet, k), i, top)
+    rows::is_repeated(section_of(sheet, k), width_of(sheet, k), i, seen)
 }
 
-// A bound on the entities up to row i.
-fn next_top(sheet: &[u8], k: usize, i: usize, top: u64) -> u64
-    requires { ⌜ RowOf (now sheet) k i × Topped (now sheet) k i top ⌝ }
-    ensures { λ r. ⌜ Topped (now (sheet .entry)) k (i + 1) r ⌝ }
+// Bounds on the entities up to row i.
+fn next_bounds(sheet: &[u8], k: usize, i: usize, seen: Bounds) -> Bounds
+    requires { ⌜ RowOf (now sheet) k i × Bounded (now sheet) k i seen ⌝ }
+    ensures { λ r. ⌜ Bounded (now (sheet .entry)) k (i + 1) r ⌝ }
 {
     if !has_entity(k) {
-        return top;
+        return seen;
     }
-    rows::raised(section_of(sheet, k), width_of(sheet, k), i, top)
+    rows::widened(section_of(sheet, k), width_of(sheet, k), i, seen)
 }
 
-fn check_row(sheet: &[u8], k: usize, i: usize, top: u64) -> Check
-    requires { ⌜ RowOf (now sheet) k i × Topped (now sheet) k i top ⌝ }
+fn check_row(sheet: &[u8], k: usize, i: usize, seen: Bounds) -> Check
+    requires { ⌜ RowOf (now sheet) k i × Bounded (now sheet) k i seen ⌝ }
     ensures { λ r. ⌜ faultOf r ≡ rowFault (now (sheet .entry)) k i ⌝ }
 {
-    if repeats(sheet, k, i, top) {
+    if repeats(sheet, k, i, seen) {
         return refuse(5, k as u64, i as u64, 0, 0);
     }
     check_fields(sheet, k, i)
 }
 
+// Every entity is outside the bounds that the rows start with.
 fn check_rows(sheet: &[u8], k: usize) -> Check
     requires { ⌜ (k < 10) × (layoutFault (now sheet) ≡ none) ⌝ }
     ensures { λ r. ⌜ faultOf r ≡ first (rowCount (now (sheet .entry)) k) (rowFault (now (sheet .entry)) k) ⌝ }
 {
     let n = row_count(sheet, k);
-    let mut top: u64 = 0;
+    let mut seen = Bounds {
+        bottom: 4294967296,
+        top: 0,
+    };
     let mut i = 0;
     while i < n {
-        let v = check_row(sheet, k, i, top);
+        let v = check_row(sheet, k, i, seen);
         if let Check::Refused(_) = v {
             return v;
         }
-        top = next_top(sheet, k, i, top);
+        seen = next_bounds(sheet, k, i, seen);
         i += 1;
     }
     Check::Passed
@@ -296,4 +301,15 @@ pub fn check_sheet(sheet: &[u8]) -> Check
         return v;
     }
     check_sections(sheet)
+}
+
+// The row of section k that names the entity, in a sheet without fault.
+pub fn find_row(sheet: &[u8], k: usize, entity: u32) -> rows::Found
+    requires { ⌜ (sheetFault (now sheet) ≡ none) × (hasEntity k ≡ true) ⌝ }
+    ensures { λ r. ⌜ foundAt r ≡ findRow (width (now (sheet .entry)) k) (section (now (sheet .entry)) k) (rowCount (now (sheet .entry)) k) entity ⌝ }
+{
+    let w = width_of(sheet, k);
+    let rows = section_of(sheet, k);
+    let n = rows::count(rows, w);
+    rows::find_distinct(rows, w, n, entity)
 }

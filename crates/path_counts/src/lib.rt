@@ -103,7 +103,7 @@ fn enter(sheet: &[u8], memo: &mut [[usize; 3]], entity: u32, left: usize) -> Ent
     if left == 0 {
         return Entered::Done(refused(24, entity));
     }
-    let Found::At(row) = layout::find_row(sheet, 0, entity) else {
+    let Found::At(row) = opening::find_row(sheet, 0, entity) else {
         return Entered::Done(refused(11, entity));
     };
     if is_known(memo, row, left) {

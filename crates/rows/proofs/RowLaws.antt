@@ -11,7 +11,8 @@ use borrow.Author.Count.{below-more}
 use lib.ListN.{length}
 use lib.Dec.{eqb}
 use Rattle.answer.proofs.FaultLaws.{first-zero, first-more, first-stop, first-none, first-at, first-found, given-true, given-false, given-none, given-some}
-use Rattle.rows.specs.Rows.{rowsIn, entityAt, findRow, isSome, repeated, Below}
+use Rattle.rows.specs.declared.Bounds.{Bounds}
+use Rattle.rows.specs.Rows.{rowsIn, entityAt, findRow, isSome, repeated, Distinct, Within}
 
 -- row i of whole rows of w bytes ends within the bytes
 pub row-fits : (w : ℕ) (rows : List ℕ) (i : ℕ) → i < rowsIn w rows → w * i + w ≤ length rows
@@ -58,13 +59,20 @@ found-in w rows n e i p = (found w rows n e i p .0, found w rows n e i p .1)
 pub found-first : (w : ℕ) (rows : List ℕ) (n e i : ℕ) → findRow w rows n e ≡ some i → findRow w rows i e ≡ none
 found-first w rows n e i p = found w rows n e i p .2
 
--- an entity that a bound rules out is not found
-pub not-found : (w : ℕ) (rows : List ℕ) (n top e : ℕ) → Below w rows n top → top ≤ e → findRow w rows n e ≡ none
-not-found w rows n top e h l = not-named w rows n e (λ j k q. omega (arith, h j k))
+-- an entity below the bounds or above them is not found
+pub not-below : (w : ℕ) (rows : List ℕ) (n : ℕ) (b : Bounds) (e : ℕ) → Within w rows n b → e < b .bottom → findRow w rows n e ≡ none
+not-below w rows n b e h l = not-named w rows n e (λ j k q. omega (arith, h j k .0))
 
--- a bound on one entity more
-pub below-next : (w : ℕ) (rows : List ℕ) (i top next : ℕ) → Below w rows i top → top ≤ next → entityAt w rows i < next → Below w rows (i + 1) next
-below-next w rows i top next h l m = below-more (λ (j : ℕ). entityAt w rows j < next) i (λ j k. omega (arith, h j k)) m
+pub not-above : (w : ℕ) (rows : List ℕ) (n : ℕ) (b : Bounds) (e : ℕ) → Within w rows n b → b .top ≤ e → findRow w rows n e ≡ none
+not-above w rows n b e h l = not-named w rows n e (λ j k q. omega (arith, h j k .1))
+
+-- bounds on one entity more
+pub within-next : (w : ℕ) (rows : List ℕ) (i : ℕ) (b next : Bounds) → Within w rows i b → next .bottom ≤ b .bottom → b .top ≤ next .top
+    → next .bottom ≤ entityAt w rows i → entityAt w rows i < next .top → Within w rows (i + 1) next
+within-next w rows i b next h l u m o =
+    below-more (λ (j : ℕ). (next .bottom ≤ entityAt w rows j) × (entityAt w rows j < next .top)) i
+    (λ j k. (omega (arith, h j k .0), omega (arith, h j k .1)))
+    (m, o)
 
 -- ---- entities that do not repeat
 pub new-entity : (w : ℕ) (rows : List ℕ) (i : ℕ) → repeated w rows i ≡ false → findRow w rows i (entityAt w rows i) ≡ none
@@ -75,11 +83,14 @@ new-entity w rows i p = go (findRow w rows i (entityAt w rows i)) p
     go none q = refl
     go (some j) q = absurd (true≢false q)
 
-module _ (w : ℕ) (rows : List ℕ) (n : ℕ) (new : (i : ℕ) → i < n → repeated w rows i ≡ false) where
+module _ (w : ℕ) (rows : List ℕ) (n : ℕ) (new : Distinct w rows n) where
   -- no two rows name one entity
   pub no-repeats : (i j : ℕ) → i < j → j < n → entityAt w rows i ≡ entityAt w rows j → ⊥
   no-repeats i j l m = none-named w rows j _ (new-entity w rows j (new j m)) i l
 
-  -- the search for a row's entity finds the row
+  -- the search finds a row that names the entity, whichever it is
+  pub find-one : (i e : ℕ) → i < n → entityAt w rows i ≡ e → some i ≡ findRow w rows n e
+  find-one i e l p = find-here w rows e i (rw p at (new-entity w rows i (new i l))) n l p
+
   pub find-own : (i : ℕ) → i < n → some i ≡ findRow w rows n (entityAt w rows i)
-  find-own i l = find-here w rows _ i (new-entity w rows i (new i l)) n l refl
+  find-own i l = find-one i _ l refl

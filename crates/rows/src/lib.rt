@@ -1,11 +1,17 @@
 // Rows of any width in a slice of bytes.
 ghost use mathlib.Core.Path.{_≡_};
 ghost use Prim.Native.Nat.{_+_, _*_, _≤_, _<_};
-ghost use Rattle.rows.specs.Rows.{rowsIn, u32Field, u64Field, findRow, foundAt, repeated, Below};
+ghost use Rattle.rows.specs.Rows.{rowsIn, u32Field, u64Field, findRow, foundAt, repeated, Within, Distinct};
 
 pub enum Found {
     At(usize),
     Nothing,
+}
+
+// Entities of some rows are at least bottom and below top.
+pub struct Bounds {
+    pub bottom: u64,
+    pub top: u64,
 }
 
 // How many whole rows there are.
@@ -47,13 +53,96 @@ pub fn find_row(rows: &[u8], w: usize, n: usize, entity: u32) -> Found
     Found::Nothing
 }
 
-// Whether an earlier row names row i's entity. An entity that is at least top is new, and no row is searched.
-pub fn is_repeated(rows: &[u8], w: usize, i: usize, top: u64) -> bool
-    requires { ⌜ (i < rowsIn w (now rows)) × (4 ≤ w) × Below w (now rows) i top ⌝ }
+fn distance(a: u32, b: u32) -> u32 {
+    if a < b {
+        return b - a;
+    }
+    a - b
+}
+
+// A row to look at first: the entity's, where the rows are spaced as rows 0 and 1 are.
+fn evenly_spaced(rows: &[u8], w: usize, n: usize, entity: u32) -> usize
+    requires { ⌜ (0 < n) × (n ≤ rowsIn w (now rows)) × (4 ≤ w) ⌝ }
+    ensures { λ r. ⌜ r < n ⌝ }
+{
+    if n == 1 {
+        return 0;
+    }
+    let first = field(rows, w, 0, 0);
+    let spacing = distance(first, field(rows, w, 1, 0));
+    if spacing == 0 {
+        return 0;
+    }
+    let i = distance(first, entity) as usize / spacing as usize;
+    if i < n {
+        return i;
+    }
+    0
+}
+
+// Row mid where it is not past the entity, and else row i.
+fn not_past(rows: &[u8], w: usize, i: usize, mid: usize, entity: u32, rising: bool) -> usize
+    requires { ⌜ (i ≤ mid) × (mid < rowsIn w (now rows)) × (4 ≤ w) ⌝ }
+    ensures { λ r. ⌜ (i ≤ r) × (r ≤ mid) ⌝ }
+{
+    let e = field(rows, w, mid, 0);
+    if rising {
+        if e <= entity {
+            return mid;
+        }
+        return i;
+    }
+    if entity <= e {
+        return mid;
+    }
+    i
+}
+
+// A row to look at next: the entity's, where the rows rise or fall.
+fn halved(rows: &[u8], w: usize, n: usize, entity: u32) -> usize
+    requires { ⌜ (0 < n) × (n ≤ rowsIn w (now rows)) × (4 ≤ w) ⌝ }
+    ensures { λ r. ⌜ r < n ⌝ }
+{
+    let rising = field(rows, w, 0, 0) <= field(rows, w, n - 1, 0);
+    let mut i = 0;
+    let mut left = n;
+    while 1 < left {
+        let half = left / 2;
+        i = not_past(rows, w, i, i + half, entity, rising);
+        left -= half;
+    }
+    i
+}
+
+// The one of n rows that names the entity, where no two name the same. Rows in no order are searched one by one.
+pub fn find_distinct(rows: &[u8], w: usize, n: usize, entity: u32) -> Found
+    requires { ⌜ (n ≤ rowsIn w (now rows)) × (4 ≤ w) × Distinct w (now rows) n ⌝ }
+    ensures { λ r. ⌜ foundAt r ≡ findRow w (now (rows .entry)) n entity ⌝ }
+{
+    if n == 0 {
+        return Found::Nothing;
+    }
+    let i = evenly_spaced(rows, w, n, entity);
+    if field(rows, w, i, 0) == entity {
+        return Found::At(i);
+    }
+    let j = halved(rows, w, n, entity);
+    if field(rows, w, j, 0) == entity {
+        return Found::At(j);
+    }
+    find_row(rows, w, n, entity)
+}
+
+// Whether an earlier row names row i's entity. An entity outside the bounds of the earlier ones is new, and no row is searched.
+pub fn is_repeated(rows: &[u8], w: usize, i: usize, seen: Bounds) -> bool
+    requires { ⌜ (i < rowsIn w (now rows)) × (4 ≤ w) × Within w (now rows) i seen ⌝ }
     ensures { λ r. ⌜ r ≡ repeated w (now (rows .entry)) i ⌝ }
 {
     let e = field(rows, w, i, 0);
-    if top <= e as u64 {
+    if (e as u64) < seen.bottom {
+        return false;
+    }
+    if seen.top <= e as u64 {
         return false;
     }
     match find_row(rows, w, i, e) {
@@ -62,11 +151,32 @@ pub fn is_repeated(rows: &[u8], w: usize, i: usize, top: u64) -> bool
     }
 }
 
-// A bound on row i's entity too.
-pub fn raised(rows: &[u8], w: usize, i: usize, top: u64) -> u64
-    requires { ⌜ (i < rowsIn w (now rows)) × (4 ≤ w) × Below w (now rows) i top ⌝ }
-    ensures { λ r. ⌜ Below w (now (rows .entry)) (i + 1) r ⌝ }
+fn least(a: u64, b: u64) -> u64
+    ensures { λ r. ⌜ (r ≤ a) × (r ≤ b) ⌝ }
+{
+    if a < b {
+        return a;
+    }
+    b
+}
+
+fn greatest(a: u64, b: u64) -> u64
+    ensures { λ r. ⌜ (a ≤ r) × (b ≤ r) ⌝ }
+{
+    if a < b {
+        return b;
+    }
+    a
+}
+
+// Bounds on row i's entity too.
+pub fn widened(rows: &[u8], w: usize, i: usize, seen: Bounds) -> Bounds
+    requires { ⌜ (i < rowsIn w (now rows)) × (4 ≤ w) × Within w (now rows) i seen ⌝ }
+    ensures { λ r. ⌜ Within w (now (rows .entry)) (i + 1) r ⌝ }
 {
     let e = field(rows, w, i, 0) as u64;
-    if top <= e { e + 1 } else { top }
+    Bounds {
+        bottom: least(seen.bottom, e),
+        top: greatest(seen.top, e + 1),
+    }
 }

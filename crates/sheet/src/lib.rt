@@ -85,7 +85,7 @@ pub fn find_node(sheet: &[u8], entity: u32) -> NodeFound
     requires { ⌜ Opens (now sheet) ⌝ }
     ensures { λ r. ⌜ nodeFound r ≡ nodeOf (gameOf (now (sheet .entry))) entity ⌝ }
 {
-    match layout::find_row(sheet, 0, entity) {
+    match opening::find_row(sheet, 0, entity) {
         Found::At(i) => NodeFound::Found(node_row(sheet, i)),
         Found::Nothing => NodeFound::Missing,
     }
@@ -107,7 +107,7 @@ pub fn find_action(sheet: &[u8], entity: u32) -> ActionFound
     requires { ⌜ Opens (now sheet) ⌝ }
     ensures { λ r. ⌜ actionFound r ≡ actionOf (gameOf (now (sheet .entry))) entity ⌝ }
 {
-    match layout::find_row(sheet, 2, entity) {
+    match opening::find_row(sheet, 2, entity) {
         Found::At(i) => ActionFound::Found(action_row(sheet, i)),
         Found::Nothing => ActionFound::Missing,
     }
@@ -130,7 +130,7 @@ pub fn find_chance(sheet: &[u8], entity: u32) -> ChanceFound
     requires { ⌜ Opens (now sheet) ⌝ }
     ensures { λ r. ⌜ chanceFound r ≡ chanceOf (gameOf (now (sheet .entry))) entity ⌝ }
 {
-    match layout::find_row(sheet, 3, entity) {
+    match opening::find_row(sheet, 3, entity) {
         Found::At(i) => ChanceFound::Found(chance_row(sheet, i)),
         Found::Nothing => ChanceFound::Missing,
     }
@@ -152,7 +152,7 @@ pub fn find_terminal(sheet: &[u8], entity: u32) -> TerminalFound
     requires { ⌜ Opens (now sheet) ⌝ }
     ensures { λ r. ⌜ (terminalFound (now (sheet .entry)) r ≡ terminalOf (gameOf (now (sheet .entry))) entity) × InSheet (now (sheet .entry)) r ⌝ }
 {
-    match layout::find_row(sheet, 5, entity) {
+    match opening::find_row(sheet, 5, entity) {
         Found::At(i) => TerminalFound::Found(terminal_row(sheet, i)),
         Found::Nothing => TerminalFound::Missing,
     }
@@ -182,7 +182,7 @@ pub fn find_set(sheet: &[u8], entity: u32) -> SetFound
     requires { ⌜ Opens (now sheet) ⌝ }
     ensures { λ r. ⌜ setFound r ≡ setOf (gameOf (now (sheet .entry))) entity ⌝ }
 {
-    match layout::find_row(sheet, 7, entity) {
+    match opening::find_row(sheet, 7, entity) {
         Found::At(i) => SetFound::Found(set_row(sheet, i)),
         Found::Nothing => SetFound::Missing,
     }

@@ -115,7 +115,7 @@ fn validate_reachable_node(sheet: &[u8], entity: u32, left: usize, marks: &mut [
     if left == 0 {
         return refuse(12, entity as u64, 0, 0, 0);
     }
-    let Found::At(row) = layout::find_row(sheet, 0, entity) else {
+    let Found::At(row) = opening::find_row(sheet, 0, entity) else {
         return refuse(11, entity as u64, 0, 0, 0);
     };
     if marks[row] == VISITING {

@@ -2,14 +2,13 @@
 use borrow.Author.Needs.{needs}
 use borrow.Author.Tests.{eq-eqb, ne-eqb}
 use Rattle.answer.specs.Fault.{given}
-use Rattle.sheet.proofs.OpeningLaws.{opens-layout}
 use Rattle.game.specs.Edges.{transitionFault}
 use Rattle.sheet.specs.Meaning.{gameOf}
 use Rattle.edges.proofs.check_transition.Statement.{statement}
 use Rattle.edges.proofs.check_transition.Tie as tie
 
 transition-target-requires : tie.Need-transition-target-requires
-transition-target-requires c κs = search (needs, opens-layout)
+transition-target-requires c κs = search needs
 
 enum-known-to : tie.Need-enum-known-to
 enum-known-to c = search needs

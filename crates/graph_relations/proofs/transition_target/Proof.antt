@@ -1,8 +1,9 @@
 -- `transition_target` answers where the entity's transition leads.
-use mathlib.Core.Path.{sym, ap, _∙_}
+use mathlib.Core.Path.{refl, sym, ap, _∙_}
 use mathlib.Core.Option.{some}
 use borrow.Author.Needs.{needs}
-use Rattle.layout.specs.Layout.{width}
+use Rattle.opening.specs.SheetFault.{hasEntity}
+use Rattle.opening.proofs.AcceptedRows.{layout-ok}
 use Rattle.graph_relations.specs.declared.TransitionTo.{TransitionTo}
 use Rattle.graph_relations.proofs.Lookup.{row-found}
 use Rattle.graph_relations.proofs.RelationLaws.{transition-found, transition-missing}
@@ -10,14 +11,14 @@ use Rattle.graph_relations.proofs.transition_target.Statement.{statemen
 use Rattle.graph_relations.proofs.transition_target.Tie as tie
 
 find-row-requires : tie.Need-find-row-requires
-unfolding width
-find-row-requires c κs = search needs
+unfolding hasEntity
+find-row-requires c κs = (search needs, refl)
 
 enum-known-i : tie.Need-enum-known-i
 enum-known-i c = search needs
 
 transition-to-requires : tie.Need-transition-to-requires
-transition-to-requires c κs = (search needs, row-found _ 4 _ _ (c .before .before .before .find-row .ensures) _ (c .before .i .given .1))
+transition-to-requires c κs = (search (needs, layout-ok), row-found _ 4 _ _ (c .before .before .before .find-row .ensures) _ (c .before .i .given .1))
 
 target-requires : tie.Need-target-requires
 target-requires c κs = search needs

@@ -1,4 +1,4 @@
--- `check_rows` answers the first fault among a section's rows. The loop's invariant: the rows so far pass, and their entities are below top.
+-- `check_rows` answers the first fault among a section's rows. The loop's invariant: the rows so far pass, and their entities are within the bounds.
 use Prim.Native.Nat.{_-_, _≤_}
 use mathlib.Core.Option.{none}
 use mathlib.Core.Path.{_≡_}
@@ -9,15 +9,15 @@ use borrow.Author.Needs.{needs}
 use Rattle.answer.specs.Fault.{first}
 use Rattle.answer.proofs.FaultLaws.{first-zero}
 use Rattle.answer.proofs.Loops.{passed-on, refused-at, all-passed}
-use Rattle.opening.specs.SheetFault.{rowFault, RowOf, Topped}
+use Rattle.opening.specs.SheetFault.{rowFault, RowOf, Bounded}
 use Rattle.opening.proofs.check_rows.Statement.{statement}
 use Rattle.opening.proofs.check_rows.Tie as tie
 
 abbrev Inv-loop : tie.InvT-loop
-Inv-loop sheet k n top₀ i₀ top i = (i ≤ n) × (first i (rowFault sheet k) ≡ none) × Topped sheet k i top
+Inv-loop sheet k n seen₀ i₀ seen i = (i ≤ n) × (first i (rowFault sheet k) ≡ none) × Bounded sheet k i seen
 
 abbrev μ-loop : tie.MeasureT-loop
-μ-loop sheet k n top₀ i₀ top i = n - i
+μ-loop sheet k n seen₀ i₀ seen i = n - i
 
 row-count-requires : tie.Need-row-count-requires Inv-loop μ-loop
 row-count-requires c κs = search needs
@@ -46,8 +46,8 @@ returns c = refused-at _ _ (c .before .before .before .before .loop .inv .1) _ _
 enum-told-2 : tie.Need-enum-told-2 Inv-loop μ-loop
 enum-told-2 c = search needs
 
-next-top-requires : tie.Need-next-top-requires Inv-loop μ-loop
-next-top-requires c κs = (at-row (c .before .before .before), c .before .before .before .before .loop .inv .2)
+next-bounds-requires : tie.Need-next-bounds-requires Inv-loop μ-loop
+next-bounds-requires c κs = (at-row (c .before .before .before), c .before .before .before .before .loop .inv .2)
 
 add-i : tie.Need-add-i Inv-loop μ-loop
 add-i c = omega arith
@@ -56,7 +56,7 @@ loop-less : tie.Need-loop-less Inv-loop μ-loop
 loop-less c = omega arith
 
 loop-again : tie.Need-loop-again Inv-loop μ-loop
-loop-again c = (omega arith, passed-on _ _ (c .before .before .before .before .before .loop .inv .1) _ (c .before .before .before .check-row .ensures) (c .before .enum-told2 .given .1), c .next-top .ensures)
+loop-again c = (omega arith, passed-on _ _ (c .before .before .before .before .before .loop .inv .1) _ (c .before .before .before .check-row .ensures) (c .before .enum-told2 .given .1), c .next-bounds .ensures)
 
 returns-2 : tie.Need-returns-2 Inv-loop μ-loop
 returns-2 c = all-passed _ _ (c .before .loop .inv .1) _ (rw (← c .before .before .row-count .ensures) (search needs)) (rw (← c .before .before .row-count .ensures) (search needs))
@@ -73,7 +73,7 @@ check-rows-spec =
     enum-told
     returns
     enum-told-2
-    next-top-requires
+    next-bounds-requires
     add-i
     loop-less
     loop-again

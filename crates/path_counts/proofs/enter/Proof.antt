@@ -1,9 +1,8 @@
 -- `enter` answers 24 and 11, counts that are known, and then goes by the node's kind.
-use mathlib.Core.Path.{sym, _∙_}
+use mathlib.Core.Path.{refl, sym, _∙_}
 use native.Mathlib.Omega.{arith}
 use borrow.Author.Needs.{needs}
-use Rattle.layout.specs.Layout.{width}
-use Rattle.sheet.proofs.OpeningLaws.{opens-layout}
+use Rattle.opening.specs.SheetFault.{hasEntity}
 use Rattle.sheet.specs.Meaning.{gameOf}
 use Rattle.path_counts.specs.Paths.{paths}
 use Rattle.path_counts.proofs.PathLaws.{depth-spent, node-missing, decision-continues, chance-continues}
@@ -19,8 +18,8 @@ returns : tie.Need-returns
 returns c = refused-visits (c .before .before .before .pre .1) (c .refused .ensures) (rw (c .before .if1 .taken) (depth-spent _ _))
 
 find-row-requires : tie.Need-find-row-requires
-unfolding width
-find-row-requires c κs = search (needs, opens-layout)
+unfolding hasEntity
+find-row-requires c κs = (search needs, refl)
 
 enum-known-row : tie.Need-enum-known-row
 enum-known-row c = search needs

@@ -1,7 +1,7 @@
 -- `validate_reachable_node` answers the walk's fault on every path that its marks stand for. Its measure is the depth left.
 -- The loop's invariant: the first fault below the entity is that of the children from row i on, and the marks stand for the path with the entity on it.
 use Prim.Native.Nat.{ℕ, suc, _-_, _≤_, _<_}
-use mathlib.Core.Path.{_≡_, sym, ap, _∙_}
+use mathlib.Core.Path.{_≡_, refl, sym, ap, _∙_}
 use native.Mathlib.Omega.{arith}
 use borrow.Author.Needs.{needs}
 use borrow.Fn.Kinds.{In}
@@ -9,7 +9,7 @@ use borrow.Fn.PlainCycle.{Measures, is, falls, and}
 use denote.Ref.{now}
 use mathlib.Core.Option.{some}
 use Rattle.answer.specs.Fault.{faultOf}
-use Rattle.layout.specs.Layout.{width}
+use Rattle.opening.specs.SheetFault.{hasEntity}
 use Rattle.game.specs.declared.Node.{Node}
 use Rattle.sheet.specs.Meaning.{nodeRow, gameOf}
 use Rattle.topology.specs.Topology.{kindFault}
@@ -21,7 +21,7 @@ use Rattle.topology.proofs.validate_reachable_node.Kinds as kinds
 use Rattle.topology.proofs.+validate_reachable_node.Lts-validate_reachable_node as lts
 use Rattle.answer.proofs.refuse.Reads as refuse-reads
 use Rattle.graph_relations.proofs.children_of.Reads as children-of-reads
-use Rattle.layout.proofs.find_row.Reads as find-row-reads
+use Rattle.opening.proofs.find_row.Reads as find-row-reads
 use Rattle.layout.proofs.row_count.Reads as row-count-reads
 use Rattle.sheet.proofs.node_row.Reads as node-row-reads
 use Rattle.topology.proofs.check_kind.Reads as check-kind-reads
@@ -99,8 +99,8 @@ returns : (t : ℕ) → lts.Need-returns (calls t) (node-is t) reads.Post Inv-lo
 returns t c = visit-spent _ _ _ _ _ _ (c .before .if1 .taken)
 
 find-row-requires : (t : ℕ) → lts.Need-find-row-requires (calls t) (node-is t) reads.Post Inv-loop μ-loop
-unfolding width
-find-row-requires t c κs = search (needs, opens-layout)
+unfolding hasEntity
+find-row-requires t c κs = (search needs, refl)
 
 enum-known-row : (t : ℕ) → lts.Need-enum-known-row (calls t) (node-is t) reads.Post Inv-loop μ-loop
 enum-known-row t c = search needs
