@@ -172,11 +172,10 @@ impl Answer {
         match self {
             Answer::Solution(solution) => {
                 let labels = solution.labels.len().min(solution.action_count as usize);
-                let payoffs = solution.payoffs.len().min(solution.payoff_count as usize);
-                words.extend([solution.has_terminal, solution.terminal, solution.action_count]);
+                words.extend([solution.has_terminal, solution.terminal, solution.payoff_count]);
+                words.extend(solution.payoffs.map(f64::to_bits));
+                words.push(solution.action_count);
                 words.extend(solution.labels[..labels].iter().map(|&label| u64::from(label)));
-                words.push(solution.payoff_count);
-                words.extend(solution.payoffs[..payoffs].iter().map(|payoff| payoff.to_bits()));
             }
             Answer::Written(written, buffer) => {
                 words.push(written.count);

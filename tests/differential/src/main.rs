@@ -166,7 +166,7 @@ fn calls(draft: &Draft, subject: &Subject, random: &mut Random) -> Vec<Call> {
 /// Writes the fixed list with its answers.
 fn store(folder: PathBuf, file: &str) -> Result<bool, Box<dyn Error>> {
     let mut judge = Judge::new(folder);
-    let mut vectors = Vectors::default();
+    let mut vectors = Vectors::new();
     judge_fixed(&mut judge, |sheet, call, answer| vectors.add(sheet, call, answer))?;
     let unreached = judge.unreached();
     if judge.differences > 0 || !unreached.is_empty() {

@@ -13,6 +13,22 @@ fn forked() -> Draft {
     draft
 }
 
+/// Node 1 with two replies to node 2, and a third to a terminal that node 2 leads to as well.
+fn shared() -> Draft {
+    let mut draft = Draft { root: 1, ..Draft::default() };
+    let [left, right, on, out] = ["left", "right", "on", "out"].map(|text| draft.label(text));
+    draft.decision(1, 0);
+    draft.decision(2, 1);
+    draft.terminal(3, &[1.0]);
+    draft.terminal(4, &[-0.0, 5.0]);
+    draft.action(10, 1, left, 2);
+    draft.action(11, 1, right, 2);
+    draft.action(12, 1, out, 4);
+    draft.action(13, 2, on, 3);
+    draft.action(14, 2, out, 4);
+    draft
+}
+
 /// Listings that just fit, that do not, and the faults that come before 26.
 pub fn paths(list: &mut List) {
     let sheet = forked().encode();
@@ -35,6 +51,17 @@ pub fn paths(list: &mut List) {
     list.refused("paths", &sheet, Call::Paths { start: 1, limit: 2, room: 0 }, 24, [4]);
     list.refused("paths", &sheet, Call::Paths { start: 8, limit: 0, room: 0 }, 11, [8]);
     list.refused("paths", &sheet, Call::Paths { start: 1, limit: 65, room: 0 }, 27, [65]);
+    let sheet = shared().encode();
+    let words = [
+        [3, 1, 2, 0, 2, bits(1.0)].as_slice(),
+        &[4, 2, 2, 0, 3, bits(-0.0), bits(5.0)],
+        &[3, 1, 2, 1, 2, bits(1.0)],
+        &[4, 2, 2, 1, 3, bits(-0.0), bits(5.0)],
+        &[4, 2, 1, 3, bits(-0.0), bits(5.0)],
+    ]
+    .concat();
+    list.written("paths by shared nodes", &sheet, paths_in(40), &words, 40);
+    list.refused("paths by shared nodes", &sheet, paths_in(words.len() - 1), 26, [words.len() as u64 - 1]);
     let mut faulty = forked();
     faulty.sections[TERMINALS].remove(0);
     faulty.sections[PAYOFFS].drain(..2);

@@ -1,0 +1,62 @@
+-- `replay::put_labels` is safe and ends.
+use Prim.Native.Nat.{_≤_, _-_}
+use borrow.Author.Needs.{needs}
+use Rattle.replay.proofs.put_labels.Statement.{statement}
+use Rattle.replay.proofs.put_labels.Tie as tie
+
+abbrev Inv-loop : tie.InvT-loop
+Inv-loop words₀ labels i₀ words i = i ≤ 64
+
+abbrev μ-loop : tie.MeasureT-loop
+μ-loop words₀ labels i₀ words i = 64 - i
+
+loop-holds : tie.Need-loop-holds Inv-loop μ-loop
+loop-holds c = search needs
+
+mul-wide : tie.Need-mul-wide Inv-loop μ-loop
+mul-wide c = search needs
+
+element-copy-out-wide : tie.Need-element-copy-out-wide Inv-loop μ-loop
+element-copy-out-wide c = search needs
+
+wide-requires : tie.Need-wide-requires Inv-loop μ-loop
+wide-requires c κs = search needs
+
+add-words : tie.Need-add-words Inv-loop μ-loop
+add-words c = search needs
+
+mul-words : tie.Need-mul-words Inv-loop μ-loop
+mul-words c = search needs
+
+element-write-words : tie.Need-element-write-words Inv-loop μ-loop
+element-write-words c = search needs
+
+add-i : tie.Need-add-i Inv-loop μ-loop
+add-i c = search needs
+
+loop-less : tie.Need-loop-less Inv-loop μ-loop
+loop-less c = search needs
+
+loop-again : tie.Need-loop-again Inv-loop μ-loop
+loop-again c = search needs
+
+returns : tie.Need-returns Inv-loop μ-loop
+returns c = search needs
+
+pub put-labels-spec : {M : Type 1} → statement M
+put-labels-spec =
+    tie.close
+    (tie.spec
+    Inv-loop
+    μ-loop
+    loop-holds
+    mul-wide
+    element-copy-out-wide
+    wide-requires
+    add-words
+    mul-words
+    element-write-words
+    add-i
+    loop-less
+    loop-again
+    returns)

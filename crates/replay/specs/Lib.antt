@@ -1,0 +1,2 @@
+-- The definitions of `replay`.
+pub mod Lent
