@@ -17,6 +17,7 @@ use Rattle.game.specs.Edges.{outgoingActionEdges, outgoingChanceOutcomes}
 use Rattle.backward_induction.specs.declared.Method.{Method}
 use Rattle.backward_induction.specs.declared.Method.the-variants as Methods
 use Rattle.backward_induction.specs.Solve.{Solution, Reply, Solver, reply, better, best, bestOf, taken, products, added, sumsOn, sumsOf, allFinite, inRange, atChance, atKind, step, solve}
+use Rattle.backward_induction.specs.Turns.{leading, bestFrom, addedTo, sumsFrom}
 use Rattle.backward_induction.proofs.Related.{equality, AtEdges, AtOutcomes, reply-related}
 
 -- ---- the solve by the depths left
@@ -78,14 +79,6 @@ unfolding inRange
 not-in-range e vs h = rw (h, inRange)
 
 -- ---- a decision's edges, with the reply that leads so far
-abbrev pub leading : Option Reply → Reply → Reply
-leading none s = s
-leading (some r) s = better r s
-
-unfoldable pub bestFrom : Solver → ℕ → ℕ → Option Reply → List ActionEdge → Answer Reply
-bestFrom f e p lead [] = orRefuse lead (noOutgoingActions e)
-bestFrom f e p lead (x ∷ xs) = reply f p x >>= λ s. bestFrom f e p (some (leading lead s)) xs
-
 module _ (f : Solver) (p : ℕ) where
   -- what the target's answer makes of an edge
   pub reply-refused : (x : ActionEdge) (r : Refusal) → f (x .target) ≡ refused r → reply f p x ≡ refused r
@@ -151,13 +144,6 @@ better-cases P r s kept later = go (less (r .payoff) (s .payoff)) refl
     go false e = rw (better-kept r s e) (kept e)
 
 -- ---- a chance node's outcomes, with the sums so far
-abbrev pub addedTo : ℕ → Option (List Number) → Number → List Number → Answer (List Number)
-addedTo e none p vs = done (products p vs)
-addedTo e (some sums) p vs = added e sums p vs
-
-unfoldable pub sumsFrom : Solver → ℕ → Option (List Number) → List Chance → Answer (List Number)
-sumsFrom f e sums [] = orRefuse sums (noOutgoingChanceOutcomes e)
-sumsFrom f e sums (o ∷ os) = f (o .target) >>= λ s. addedTo e sums (o .probability) (s .payoffs) >>= λ more. sumsFrom f e (some more) os
 
 -- 19, or the products added
 module _ (e : ℕ) (sums : List Number) (p : Number) (vs : List Number) where

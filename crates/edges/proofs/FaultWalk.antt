@@ -9,7 +9,8 @@ use Rattle.answer.specs.declared.Check.the-variants.{Passed, Refused}
 use Rattle.answer.specs.Fault.{Fault, faultOf}
 use Rattle.answer.specs.Answer.{Answer, refused, done, faultIn}
 use Rattle.graph_relations.specs.Relations.{ChildRow}
-use Rattle.game.proofs.Walk.{collectFrom, from-fault-next, from-fault-stop, from-fault-end}
+use Rattle.game.specs.Edges.{collectFrom}
+use Rattle.game.proofs.Walk.{from-fault-next, from-fault-stop, from-fault-end}
 
 module _ {B : Type 0} (f : ChildRow → Answer (Option B)) (row : ℕ → ChildRow) (n : ℕ) (fault : Fault) where
   -- the loop's invariant at row i: the fault is the first from row i on

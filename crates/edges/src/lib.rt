@@ -9,6 +9,7 @@ ghost use Rattle.graph_relations.specs.RelationRows.{childRow};
 ghost use Rattle.game.specs.Game.{actionOf, chanceOf};
 ghost use Rattle.game.specs.Edges.{transitionFault, edgeOf, outgoingActionEdges, outgoingChanceOutcomes, actionEdgeIn, chanceOutcomeIn};
 ghost use Rattle.sheet.specs.Meaning.{gameOf, Opens};
+ghost use Rattle.child_rows.specs.Links.{NextOf, Chain};
 ghost use Rattle.edges.specs.Steps.{actionStep, chanceStep};
 use answer::Check;
 use answer::Refusal;
@@ -89,6 +90,22 @@ pub fn outgoing_action_edges(sheet: &[u8], source: u32) -> Check
     Check::Passed
 }
 
+// The same along the links from the source's first child row on.
+pub fn linked_action_edges(sheet: &[u8], links: &[u32], source: u32, from: usize) -> Check
+    requires { ⌜ Opens (now sheet) × NextOf (now sheet) source 0 from × Chain (now sheet) (now links) source from ⌝ }
+    ensures { λ r. ⌜ faultOf r ≡ faultIn (outgoingActionEdges (gameOf (now (sheet .entry))) source) ⌝ }
+{
+    let n = layout::row_count(sheet, 1);
+    let mut row = from;
+    while row < n {
+        if let ActionStep::Refused(r) = action_edge(sheet, source, row) {
+            return Check::Refused(r);
+        }
+        row = child_rows::next_child(links, row);
+    }
+    Check::Passed
+}
+
 // An entity as a chance outcome.
 fn checked_chance(sheet: &[u8], entity: u32) -> ChanceStep
     requires { ⌜ Opens (now sheet) ⌝ }
@@ -126,6 +143,22 @@ pub fn outgoing_chance_outcomes(sheet: &[u8], source: u32) -> Check
             return Check::Refused(r);
         }
         i += 1;
+    }
+    Check::Passed
+}
+
+// The same along the links from the source's first child row on.
+pub fn linked_chance_outcomes(sheet: &[u8], links: &[u32], source: u32, from: usize) -> Check
+    requires { ⌜ Opens (now sheet) × NextOf (now sheet) source 0 from × Chain (now sheet) (now links) source from ⌝ }
+    ensures { λ r. ⌜ faultOf r ≡ faultIn (outgoingChanceOutcomes (gameOf (now (sheet .entry))) source) ⌝ }
+{
+    let n = layout::row_count(sheet, 1);
+    let mut row = from;
+    while row < n {
+        if let ChanceStep::Refused(r) = chance_outcome(sheet, source, row) {
+            return Check::Refused(r);
+        }
+        row = child_rows::next_child(links, row);
     }
     Check::Passed
 }

@@ -9,10 +9,7 @@ use Rattle.answer.specs.Answer.{Answer, refused, done, _>>=_, faultIn, keep, co
 use Rattle.answer.proofs.AnswerLaws.{refused-not-done, done-injective, collect-nil, collect-skip, collect-keep, collect-stop, collect-done, fault-on}
 use Rattle.rows.specs.Store.{rowsFrom, allRows}
 use Rattle.rows.proofs.StoreLaws.{rows-next, rows-end}
-
--- what is collected from row i on
-abbrev pub collectFrom : {A B : Type 0} → (A → Answer (Option B)) → (ℕ → A) → ℕ → ℕ → Answer (List B)
-collectFrom f row n i = collect f (rowsFrom row i (n - i))
+use Rattle.game.specs.Edges.{collectFrom}
 
 module _ {A B : Type 0} (f : A → Answer (Option B)) (row : ℕ → A) (n : ℕ) where
   pub from-start : collect f (allRows row n) ≡ collectFrom f row n 0

@@ -1,5 +1,5 @@
 -- The edges out of a node: `outgoing_action_edges` and `outgoing_chance_outcomes` of extensive_form.rs. Definitions only.
-use Prim.Native.Nat.{ℕ}
+use Prim.Native.Nat.{ℕ, _-_}
 use mathlib.Core.Bool.{not}
 use mathlib.Core.List.{List}
 use mathlib.Core.Option.{Option, none, some}
@@ -7,6 +7,7 @@ use lib.Dec.{eqb}
 use Rattle.answer.specs.Fault.{Fault, given}
 use Rattle.answer.specs.Answer.{Answer, done, unless, collect}
 use Rattle.answer.specs.Refusals.{missingTransition, transitionTargetMismatch}
+use Rattle.rows.specs.Store.{rowsFrom}
 use Rattle.graph_relations.specs.Relations.{ChildRow, childIn, childrenOf, transitionTarget}
 use Rattle.game.specs.declared.ActionEdge.{ActionEdge}
 use Rattle.game.specs.Game.{Game, Chance, actionOf, chanceOf}
@@ -49,3 +50,7 @@ module _ (g : Game) where
 
   unfoldable pub chanceOutcomeIn : ℕ → ChildRow → Answer (Option Chance)
   chanceOutcomeIn source c = edgeIn (chanceOf g) (λ o. o .target) source c
+
+-- what the rows from i on give, of n rows that are gone through one after the other
+abbrev pub collectFrom : {A B : Type 0} → (A → Answer (Option B)) → (ℕ → A) → ℕ → ℕ → Answer (List B)
+collectFrom f row n i = collect f (rowsFrom row i (n - i))

@@ -9,7 +9,7 @@ use Rattle.answer.specs.Answer.{Answer, refused, done}
 use Rattle.answer.specs.Listing.{Outcome}
 use Rattle.solver.specs.Held.{Held}
 use Rattle.kuhn.specs.declared.KuhnValue.{KuhnValue}
-use Rattle.kuhn.specs.Binary64 as Binary64
+use Rattle.kuhn_poker.specs.Binary64 as Binary64
 use Rattle.kgs.specs.declared.KgsRefusal.{KgsRefusal}
 use Rattle.kgs.specs.declared.KgsSolution.{KgsSolution}
 use Rattle.kgs.specs.declared.KgsWritten.{KgsWritten}

@@ -2,9 +2,9 @@
 use mathlib.Core.Path.{_≡_, refl}
 use Prim.Native.Nat.{ℕ, zero, suc}
 use Rattle.kuhn.specs.declared.CfrVariant.{CfrVariant}
-use Rattle.kuhn.specs.KuhnPoker.{playerAt, informationSet, outcome}
-use Rattle.kuhn.specs.Strategy.{StrategyProfile, expectedValueIn}
-use Rattle.kuhn.specs.Table.{table, entry}
+use Rattle.kuhn_poker.specs.KuhnPoker.{playerAt, informationSet, outcome}
+use Rattle.kuhn_poker.specs.Strategy.{StrategyProfile, expectedValueIn}
+use Rattle.kuhn_poker.specs.Table.{table, entry}
 use Rattle.kuhn.specs.Solve.{averageStrategy, averageValue, betShare, kuhnValue, solved}
 
 pub value-of-table : (σ : StrategyProfile) → averageValue (entry (table σ)) ≡ averageValue σ

@@ -7,16 +7,17 @@ use lib.Ieee.{Float}
 use Rattle.answer.specs.Refusals.{iterationsAbove}
 use Rattle.answer.specs.Fault.{given}
 use Rattle.answer.specs.Answer.{Answer, refused, done, unless}
-use Rattle.kuhn.specs.Binary64 as Binary64
-use Rattle.kuhn.specs.Binary64.{half, three, six, _⊕_, _⊘_}
+use Rattle.kuhn_poker.specs.Binary64 as Binary64
+use Rattle.kuhn_poker.specs.Binary64.{half, three, six, _⊕_, _⊘_}
+use Rattle.kuhn_poker.specs.KuhnPoker.{deals}
+use Rattle.kuhn_poker.specs.Strategy.{StrategyProfile, expectedValue}
+use Rattle.kuhn_poker.specs.Table.{table, entry}
+use Rattle.kuhn_poker.specs.Regret.{sumFrom, counterfactualRegret, regretMatching, strategySum, averageOf}
 use Rattle.kuhn.specs.declared.CfrVariant.{CfrVariant}
 use Rattle.kuhn.specs.declared.KuhnValue.{KuhnValue}
 use Rattle.kuhn.specs.declared.Kuhn.{Kuhn}
 use Rattle.kuhn.specs.declared.Kuhn.the-variants.{Solved, Refused}
-use Rattle.kuhn.specs.KuhnPoker.{deals}
-use Rattle.kuhn.specs.Strategy.{StrategyProfile, expectedValue}
-use Rattle.kuhn.specs.Table.{table, entry}
-use Rattle.kuhn.specs.Regret.{sumFrom, counterfactualRegret, regretMatching, strategySum, averageOf, weightOf, cumulativeRegret}
+use Rattle.kuhn.specs.Variants.{weightOf, cumulativeRegret}
 
 -- ---- the iterations
 

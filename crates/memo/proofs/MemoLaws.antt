@@ -64,12 +64,12 @@ pub no-payoffs : map meaning (replicate 8 (ofBits binary64 0)) ≡ replicate 8 (
 unfolding fromBits fromFields
 no-payoffs = rw (meaning-ofBits 0)
 
-pub empty-memo : (method : Method) (s : List ℕ) (zeros : Float) → rowCount s 0 ≤ 1024 → Memo method s (rows (replicate 1024 (replicate 5 0)) (replicate 1024 (replicate 64 0)) (replicate 1024 (replicate 8 zeros)))
-empty-memo method s zeros few = record {
+pub empty-memo : (method : Method) (s : List ℕ) (zeros : Float) (n : ℕ) → rowCount s 0 ≤ n → Memo method s (rows (replicate n (replicate 5 0)) (replicate n (replicate 64 0)) (replicate n (replicate 8 zeros)))
+empty-memo method s zeros n few = record {
   within = λ i h. record {
     heads = simp length-replicate (omega arith);
     labels = simp length-replicate (omega arith);
     payoffs = simp length-replicate (omega arith);
   };
-  right = λ i f. let h = f .row in let z : getD (getD {A = List ℕ} (replicate 1024 (replicate 5 0)) i []) 0 0 ≡ 0 = ap (λ (l : List ℕ). getD l 0 0) (getD-replicate {A = List ℕ} 1024 i (replicate 5 0) [] (omega arith)) in absurd (omega arith);
+  right = λ i f. let h = f .row in let z : getD (getD {A = List ℕ} (replicate n (replicate 5 0)) i []) 0 0 ≡ 0 = ap (λ (l : List ℕ). getD l 0 0) (getD-replicate {A = List ℕ} n i (replicate 5 0) [] (omega arith)) in absurd (omega arith);
 }

@@ -10,8 +10,8 @@ use Rattle.answer.specs.Answer.{done}
 use Rattle.layout.specs.Layout.{rowCount}
 use Rattle.graph_relations.specs.RelationRows.{childRow}
 use Rattle.game.specs.declared.ActionEdge.{ActionEdge}
-use Rattle.game.specs.Edges.{actionEdgeIn}
-use Rattle.game.proofs.Walk.{collectFrom, left-end, left-skip, left-keep, left-done}
+use Rattle.game.specs.Edges.{actionEdgeIn, collectFrom}
+use Rattle.game.proofs.Walk.{left-end, left-skip, left-keep, left-done}
 use Rattle.sheet.specs.Meaning.{gameOf}
 use Rattle.sheet.proofs.ChildWalk.{actions-walk}
 use Rattle.edges.specs.Steps.{actionStep}

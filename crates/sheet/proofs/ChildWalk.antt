@@ -7,8 +7,8 @@ use Rattle.answer.specs.Answer.{Answer, collect}
 use Rattle.layout.specs.Layout.{rowCount}
 use Rattle.graph_relations.specs.Relations.{ChildRow}
 use Rattle.graph_relations.specs.RelationRows.{childRow, childRows}
-use Rattle.game.specs.Edges.{outgoingActionEdges, outgoingChanceOutcomes, actionEdgeIn, chanceOutcomeIn}
-use Rattle.game.proofs.Walk.{collectFrom, from-start}
+use Rattle.game.specs.Edges.{outgoingActionEdges, outgoingChanceOutcomes, actionEdgeIn, chanceOutcomeIn, collectFrom}
+use Rattle.game.proofs.Walk.{from-start}
 use Rattle.game.proofs.EdgeLaws.{actions-by-rows, chances-by-rows}
 use Rattle.sheet.specs.Meaning.{gameOf}
 

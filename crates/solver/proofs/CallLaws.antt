@@ -1,9 +1,12 @@
--- The call on bytes, a start and a limit: 27, the refusals of opening, and the solve with the depth that the limit means.
+-- The call on bytes, a start and a limit: 27, the refusals of opening, the solve with the depth that the limit means, and what it is lent.
 use mathlib.Core.Path.{_≡_}
 use mathlib.Core.List.{List}
-use Prim.Native.Nat.{ℕ, _<_, _≤_}
+use Prim.Native.Nat.{ℕ, _*_, _<_, _≤_}
+use native.Mathlib.Omega.{arith}
 use borrow.Author.Tests.{lt-ltb, le-ltb, ne-eqb}
 use lib.Dec.{lit<}
+use lib.Ieee.{binary64, ofBits}
+use lib.ListN.{replicate, length-replicate}
 use Rattle.answer.specs.declared.Refusal.{Refusal}
 use Rattle.answer.specs.Fault.{given}
 use Rattle.answer.specs.Answer.{refused}
@@ -15,11 +18,29 @@ use Rattle.sheet.proofs.OpeningLaws.{opens-layout, opening-done}
 use Rattle.backward_induction.specs.declared.Method.{Method}
 use Rattle.backward_induction.specs.Solve.{solve}
 use Rattle.backward_induction.specs.Call.{depthOf, solution}
+use Rattle.memo.specs.Memo.{rows}
+use Rattle.memo.proofs.MemoLaws.{empty-memo}
+use Rattle.solver.specs.Solving.{Lent}
 
--- a memo of 1,024 rows has one for each node row
-pub node-rows : (s : List ℕ) → Opens s → rowCount s 0 ≤ 1024
-unfolding rowLimit
-node-rows s opens = rows-most s (opens-layout s opens) 0 (lit< tt)
+-- no sheet has more than 1,024 nodes or children
+module _ (s : List ℕ) (opens : Opens s) where
+  pub few-nodes : rowCount s 0 ≤ 1024
+  unfolding rowLimit
+  few-nodes = rows-most s (opens-layout s opens) 0 (lit< tt)
+
+  pub few-children : rowCount s 1 ≤ 1024
+  unfolding rowLimit
+  few-children = rows-most s (opens-layout s opens) 1 (lit< tt)
+
+-- n rows that are all zero, where the sheet has no more
+pub lent : (method : Method) (s : List ℕ) (n : ℕ) → rowCount s 0 ≤ n → rowCount s 1 ≤ n
+    → Lent method s (replicate (2 * n) 0) (rows (replicate n (replicate 5 0)) (replicate n (replicate 64 0)) (replicate n (replicate 8 (ofBits binary64 0))))
+lent method s n nodes children =
+    record {
+      node-room = simp length-replicate (omega arith);
+      child-room = simp length-replicate (omega arith);
+      memo = empty-memo method s (ofBits binary64 0) n nodes;
+    }
 
 -- limit 0 means 32
 module _ (limit : ℕ) where

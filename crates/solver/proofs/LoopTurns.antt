@@ -27,9 +27,10 @@ use Rattle.edges.specs.declared.ChanceStep.the-variants as C
 use Rattle.edges.specs.Steps.{actionStep, chanceStep}
 use Rattle.edges.proofs.ActionStep.{the-type as action-step}
 use Rattle.edges.proofs.ChanceStep.{the-type as chance-step}
+use Rattle.child_rows.specs.Links.{nextChild}
 use Rattle.backward_induction.specs.declared.Method.{Method}
 use Rattle.backward_induction.specs.Solve.{solve}
-use Rattle.backward_induction.proofs.SolveLaws.{addedTo}
+use Rattle.backward_induction.specs.Turns.{addedTo}
 use Rattle.memo.specs.declared.Visit.{Visit}
 use Rattle.memo.specs.declared.Visit.the-variants.{Solved, Refused}
 use Rattle.memo.specs.Memo.{Rows, entry, height, payoffsOf}
@@ -42,7 +43,7 @@ use Rattle.turns.specs.declared.SumsTurn.{SumsTurn}
 use Rattle.turns.specs.Replies.{leadIn, Replied, ExtendableBest, decided}
 use Rattle.turns.specs.Sums.{Holds, TurnIs, weighedUp}
 use Rattle.solver.specs.Solving.{Deciding, Weighing}
-use Rattle.solver.proofs.Walks.{Walk, visited-as, walk-refused, walk-kept}
+use Rattle.solver.proofs.Walks.{Walk, in-rows, next-child, visited-as, walk-refused, walk-kept}
 use Rattle.solver.proofs.ReplyWalk as Replying
 use Rattle.solver.proofs.OutcomeWalk as Weighing-up
 
@@ -55,7 +56,7 @@ not-first (inl e) = absurd (omega arith)
 not-first (inr e) = absurd (omega arith)
 
 -- ---- a decision
-module _ {method : Method} {s : List ℕ} {m₀ m : Rows} {row e p left n i deepest : ℕ} {best : Best} (walk : Walk method s m₀ m row e left n i deepest) (deciding : Deciding method s m e p i deepest best) where
+module _ {method : Method} {s links : List ℕ} {m₀ m : Rows} {row e p left n i deepest : ℕ} {best : Best} (walk : Walk method s links m₀ m row e left n i deepest) (deciding : Deciding method s m e p i deepest best) where
   -- the end
   module _ (end : n ≤ i) where
     replied : (k : ℕ) → deepest ≤ k → solve method (gameOf s) (suc k) e ≡ decided e (leadIn m best)
@@ -67,14 +68,14 @@ module _ {method : Method} {s : List ℕ} {m₀ m : Rows} {row e p left n i deep
     pub decision-ends : (m′ : Rows) {v : Visit} → KeptAs m m′ row (deepest + 1) (decided e (leadIn m best)) v → Visits method s m₀ m′ left e v
     decision-ends m′ kept = walk-kept walk m′ (decided e (leadIn m best)) kept replied
 
-  module _ (turn : i < n) where
-    in-rows : i < rowCount s 1
-    in-rows = let q = walk .rows in omega arith
+  module _ (turn : i < n) {j : ℕ} (to : j ≡ nextChild links i) where
+    child-row : i < rowCount s 1
+    child-row = in-rows walk turn
 
-    pub no-edge : (step : ActionStep) → LastTwo (Declared.tagOf action-step step) → actionStep step ≡ actionEdgeIn (gameOf s) e (childRow s i) → Deciding method s m e p (i + 1) deepest best
+    pub no-edge : (step : ActionStep) → LastTwo (Declared.tagOf action-step step) → actionStep step ≡ actionEdgeIn (gameOf s) e (childRow s i) → Deciding method s m e p j deepest best
     no-edge (A.Edge x) t q = not-first t
-    no-edge A.Skipped t q = Replying.row-skips deciding in-rows (sym q)
-    no-edge (A.Refused r) t q = absurd (left-done (actionEdgeIn (gameOf s) e) (childRow s) (rowCount s 1) i (deciding .edges) (deciding .left) r in-rows (sym q))
+    no-edge A.Skipped t q = Replying.replies-from (Replying.row-skips deciding child-row (sym q)) (next-child walk turn to)
+    no-edge (A.Refused r) t q = absurd (left-done (actionEdgeIn (gameOf s) e) (childRow s) (rowCount s 1) i (deciding .edges) (deciding .left) r child-row (sym q))
 
     module _ {step : ActionStep} {x : ActionEdge} (is : step ≡ A.Edge x) (found : actionStep step ≡ actionEdgeIn (gameOf s) e (childRow s i)) where
       edge : actionEdgeIn (gameOf s) e (childRow s i) ≡ done (some x)
@@ -87,33 +88,33 @@ module _ {method : Method} {s : List ℕ} {m₀ m : Rows} {row e p left n i deep
         pub reply-refused : {r : Refusal} → v ≡ Refused r → Visits method s m₀ m′ left e v
         reply-refused q =
             let deep = walk .deep in
-            visited-as m₀ m′ (sym q) (so (Replying.target-refused deciding in-rows edge (omega arith) (visited-as m m′ q visit .visited)))
+            visited-as m₀ m′ (sym q) (so (Replying.target-refused deciding child-row edge (omega arith) (visited-as m m′ q visit .visited)))
 
         module _ {at : ℕ} (there : v ≡ Solved at) {t : ReplyTurn} (replied-to : Replied m′ p best x at t) where
           pub reply-stops : {r : Refusal} → t ≡ Stop r → Visits method s m₀ m′ left e (Refused r)
           reply-stops q =
               let deep = walk .deep in
-              so (Replying.reply-stops deciding in-rows edge (walk .memo) (visited-as m m′ there visit) (subst (Replied m′ p best x at) q replied-to) (omega arith) (omega arith))
+              so (Replying.reply-stops deciding child-row edge (walk .memo) (visited-as m m′ there visit) (subst (Replied m′ p best x at) q replied-to) (omega arith) (omega arith))
 
-          pub reply-goes : {next : Best} {depth : ℕ} → t ≡ Go next → depth ≡ max deepest (height (entry m′ at)) → Deciding method s m′ e p (i + 1) depth next
-          reply-goes q d = Replying.reply-goes deciding in-rows edge (walk .memo) (visited-as m m′ there visit) (subst (Replied m′ p best x at) q replied-to) d
+          pub reply-goes : {next : Best} {depth : ℕ} → t ≡ Go next → depth ≡ max deepest (height (entry m′ at)) → Deciding method s m′ e p j depth next
+          reply-goes q d = Replying.replies-from (Replying.reply-goes deciding child-row edge (walk .memo) (visited-as m m′ there visit) (subst (Replied m′ p best x at) q replied-to) d) (next-child walk turn to)
 
 -- ---- a chance node
-module _ {method : Method} {s : List ℕ} {m₀ m : Rows} {row e left n i deepest : ℕ} {w : Sums} (walk : Walk method s m₀ m row e left n i deepest) (weighing : Weighing method s e i deepest w) where
+module _ {method : Method} {s links : List ℕ} {m₀ m : Rows} {row e left n i deepest : ℕ} {w : Sums} (walk : Walk method s links m₀ m row e left n i deepest) (weighing : Weighing method s e i deepest w) where
   -- the end
   pub chance-ends : n ≤ i → (m′ : Rows) {v : Visit} → ((sums : Option (List Number)) → Holds w sums → KeptAs m m′ row (deepest + 1) (weighedUp e sums) v) → Visits method s m₀ m′ left e v
   chance-ends end m′ kept =
       let q = walk .rows in
       walk-kept walk m′ (weighedUp e (weighing .sums)) (kept (weighing .sums) (weighing .held)) (Weighing-up.all-outcomes weighing (omega arith))
 
-  module _ (turn : i < n) where
-    row-here : i < rowCount s 1
-    row-here = let q = walk .rows in omega arith
+  module _ (turn : i < n) {j : ℕ} (to : j ≡ nextChild links i) where
+    outcome-row : i < rowCount s 1
+    outcome-row = in-rows walk turn
 
-    pub no-outcome : (step : ChanceStep) → LastTwo (Declared.tagOf chance-step step) → chanceStep step ≡ chanceOutcomeIn (gameOf s) e (childRow s i) → Weighing method s e (i + 1) deepest w
+    pub no-outcome : (step : ChanceStep) → LastTwo (Declared.tagOf chance-step step) → chanceStep step ≡ chanceOutcomeIn (gameOf s) e (childRow s i) → Weighing method s e j deepest w
     no-outcome (C.Outcome x) t q = not-first t
-    no-outcome C.Skipped t q = Weighing-up.row-skips weighing row-here (sym q)
-    no-outcome (C.Refused r) t q = absurd (left-done (chanceOutcomeIn (gameOf s) e) (childRow s) (rowCount s 1) i (weighing .outcomes) (weighing .left) r row-here (sym q))
+    no-outcome C.Skipped t q = Weighing-up.outcomes-from (Weighing-up.row-skips weighing outcome-row (sym q)) (next-child walk turn to)
+    no-outcome (C.Refused r) t q = absurd (left-done (chanceOutcomeIn (gameOf s) e) (childRow s) (rowCount s 1) i (weighing .outcomes) (weighing .left) r outcome-row (sym q))
 
     module _ {step : ChanceStep} {o : ChanceOutcome} (is : step ≡ C.Outcome o) (found : chanceStep step ≡ chanceOutcomeIn (gameOf s) e (childRow s i)) where
       outcome : chanceOutcomeIn (gameOf s) e (childRow s i) ≡ done (some (chanceIn o))
@@ -126,14 +127,14 @@ module _ {method : Method} {s : List ℕ} {m₀ m : Rows} {row e left n i deepes
         pub outcome-refused : {r : Refusal} → v ≡ Refused r → Visits method s m₀ m′ left e v
         outcome-refused q =
             let deep = walk .deep in
-            visited-as m₀ m′ (sym q) (so-chance (Weighing-up.target-refused weighing row-here outcome (omega arith) (visited-as m m′ q visit .visited)))
+            visited-as m₀ m′ (sym q) (so-chance (Weighing-up.target-refused weighing outcome-row outcome (omega arith) (visited-as m m′ q visit .visited)))
 
         module _ {at : ℕ} (there : v ≡ Solved at) {t : SumsTurn}
             (turned : (sums : Option (List Number)) → Holds w sums → TurnIs t (addedTo e sums (meaning (o .probability)) (payoffsOf (entry m′ at .head) (entry m′ at .payoffs)))) where
           pub outcome-stops : {r : Refusal} → t .fault ≡ Checks.Refused r → Visits method s m₀ m′ left e (Refused r)
           outcome-stops q =
               let deep = walk .deep in
-              so-chance (Weighing-up.outcome-stops weighing row-here outcome (visited-as m m′ there visit) turned (ap faultOf q) (omega arith) (omega arith))
+              so-chance (Weighing-up.outcome-stops weighing outcome-row outcome (visited-as m m′ there visit) turned (ap faultOf q) (omega arith) (omega arith))
 
-          pub outcome-goes : {depth : ℕ} → t .fault ≡ Checks.Passed → depth ≡ max deepest (height (entry m′ at)) → Weighing method s e (i + 1) depth (t .sums)
-          outcome-goes q d = Weighing-up.outcome-goes weighing row-here outcome (visited-as m m′ there visit) turned (ap faultOf q) d
+          pub outcome-goes : {depth : ℕ} → t .fault ≡ Checks.Passed → depth ≡ max deepest (height (entry m′ at)) → Weighing method s e j depth (t .sums)
+          outcome-goes q d = Weighing-up.outcomes-from (Weighing-up.outcome-goes weighing outcome-row outcome (visited-as m m′ there visit) turned (ap faultOf q) d) (next-child walk turn to)

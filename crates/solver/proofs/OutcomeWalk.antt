@@ -1,5 +1,5 @@
 -- The walk along the child rows of a chance node: a row that is no outcome, an outcome whose target is refused, one that stops or goes on with the sums, and the end.
-use mathlib.Core.Path.{_≡_, refl, ap, _∙_}
+use mathlib.Core.Path.{_≡_, refl, sym, ap, _∙_}
 use mathlib.Core.List.{List, [], _∷_}
 use mathlib.Core.Option.{Option, none, some}
 use Prim.Native.Nat.{ℕ, suc, _+_, _<_, _≤_, max}
@@ -11,12 +11,16 @@ use Rattle.answer.specs.Answer.{Answer, refused, done, _>>=_}
 use Rattle.layout.specs.Layout.{rowCount}
 use Rattle.graph_relations.specs.RelationRows.{childRow}
 use Rattle.game.specs.Game.{Chance}
-use Rattle.game.specs.Edges.{chanceOutcomeIn}
-use Rattle.game.proofs.Walk.{collectFrom, left-skip, left-keep, left-end}
+use Rattle.game.specs.Edges.{chanceOutcomeIn, collectFrom}
+use Rattle.game.proofs.Walk.{left-skip, left-keep, left-end}
 use Rattle.sheet.specs.Meaning.{gameOf}
+use Rattle.child_rows.specs.Links.{NextOf}
+use Rattle.child_rows.proofs.LinkedWalk.{skip-to}
+use Rattle.edges.proofs.LinkedEdges.{no-chance}
 use Rattle.backward_induction.specs.declared.Method.{Method}
 use Rattle.backward_induction.specs.Solve.{Solution, Solver, inRange, solve}
-use Rattle.backward_induction.proofs.SolveLaws.{addedTo, sumsFrom, sumsFrom-cons, sumsFrom-stop}
+use Rattle.backward_induction.specs.Turns.{addedTo, sumsFrom}
+use Rattle.backward_induction.proofs.SolveLaws.{sumsFrom-cons, sumsFrom-stop}
 use Rattle.memo.specs.Memo.{Rows, entry, height, solutionOf, payoffsOf}
 use Rattle.memo.specs.Visits.{Visits}
 use Rattle.memo.specs.declared.Visit.the-variants.{Solved}
@@ -45,6 +49,10 @@ sums-turn : (f : Solver) (e : ℕ) (sums : Option (List Number)) (o : Chance) (o
 sums-turn f e sums o os x h = sumsFrom-cons f e sums o os ∙ rw h
 
 module _ {method : Method} {s : List ℕ} {e i deepest : ℕ} {w : Sums} (walk : Weighing method s e i deepest w) where
+  -- on to the next child row
+  pub outcomes-from : {j : ℕ} → NextOf s e i j → Weighing method s e j deepest w
+  outcomes-from to = record { sums = walk .sums; held = walk .held; outcomes = walk .outcomes; left = sym (skip-to (chanceOutcomeIn (gameOf s) e) s e (no-chance s e) to) ∙ walk .left; right = walk .right }
+
   -- ---- the end
   pub all-outcomes : rowCount s 1 ≤ i → (k : ℕ) → deepest ≤ k → solve method (gameOf s) (suc k) e ≡ weighedUp e (walk .sums)
   unfolding sumsFrom

@@ -12,13 +12,17 @@ use Rattle.answer.proofs.AnswerLaws.{bind-assoc}
 use Rattle.layout.specs.Layout.{rowCount}
 use Rattle.graph_relations.specs.RelationRows.{childRow}
 use Rattle.game.specs.declared.ActionEdge.{ActionEdge}
-use Rattle.game.specs.Edges.{actionEdgeIn}
-use Rattle.game.proofs.Walk.{collectFrom, left-skip, left-keep, left-end}
+use Rattle.game.specs.Edges.{actionEdgeIn, collectFrom}
+use Rattle.game.proofs.Walk.{left-skip, left-keep, left-end}
 use Rattle.sheet.specs.Meaning.{gameOf, Opens}
 use Rattle.sheet.proofs.AcceptedGame.{accepted}
+use Rattle.child_rows.specs.Links.{NextOf}
+use Rattle.child_rows.proofs.LinkedWalk.{skip-to}
+use Rattle.edges.proofs.LinkedEdges.{no-action}
 use Rattle.backward_induction.specs.declared.Method.{Method}
 use Rattle.backward_induction.specs.Solve.{Reply, Solver, reply, taken, solve}
-use Rattle.backward_induction.proofs.SolveLaws.{leading, bestFrom, bestFrom-cons, bestFrom-stop, reply-refused, reply-same}
+use Rattle.backward_induction.specs.Turns.{leading, bestFrom}
+use Rattle.backward_induction.proofs.SolveLaws.{bestFrom-cons, bestFrom-stop, reply-refused, reply-same}
 use Rattle.backward_induction.proofs.Bounds.{solve-sized}
 use Rattle.memo.specs.Memo.{Rows, entry, height, actionCount, solutionOf, Memo, Extends}
 use Rattle.memo.specs.Visits.{SolvedIn, Visits}
@@ -55,6 +59,10 @@ best-turn f e p m best x xs row turn h r =
     ∙ ap (λ a. a >>= λ lead. bestFrom f e p lead xs) (sym (r .right))
 
 module _ {method : Method} {s : List ℕ} {m : Rows} {e p i deepest : ℕ} {best : Best} (walk : Deciding method s m e p i deepest best) where
+  -- on to the next child row
+  pub replies-from : {j : ℕ} → NextOf s e i j → Deciding method s m e p j deepest best
+  replies-from to = record { kept = walk .kept; edges = walk .edges; left = sym (skip-to (actionEdgeIn (gameOf s) e) s e (no-action s e) to) ∙ walk .left; right = walk .right }
+
   -- ---- the end
   module _ (end : rowCount s 1 ≤ i) where
     pub all-replies : (k : ℕ) → deepest ≤ k → solve method (gameOf s) (suc k) e ≡ decided e (leadIn m best)

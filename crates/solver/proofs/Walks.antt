@@ -1,15 +1,15 @@
 -- What both walks along a node's child rows keep: the memo is right and has only grown, and the depth that the answers need is below what is left.
 use mathlib.Core.Path.{_≡_, refl, ap, _∙_, subst}
 use mathlib.Core.List.{List}
-use Prim.Native.Nat.{ℕ, suc, _+_, _-_, _<_, _≤_, max}
+use Prim.Native.Nat.{ℕ, suc, _+_, _-_, _*_, _<_, _≤_, max}
 use native.Mathlib.Omega.{arith}
 use lib.ListN.{length}
 use Rattle.answer.specs.declared.Refusal.{Refusal}
 use Rattle.answer.specs.Answer.{Answer, refused}
 use Rattle.layout.specs.Layout.{rowCount}
-use Rattle.layout.proofs.LayoutLaws.{rows-bound}
 use Rattle.sheet.specs.Meaning.{gameOf, Opens}
-use Rattle.sheet.proofs.OpeningLaws.{opens-layout}
+use Rattle.child_rows.specs.Links.{NextOf, firstChild, nextChild, Linked, Chain}
+use Rattle.child_rows.proofs.LinkLaws.{chain-starts, chain-next, chain-goes, chain-room}
 use Rattle.backward_induction.specs.declared.Method.{Method}
 use Rattle.backward_induction.specs.Solve.{Solution, solve}
 use Rattle.memo.specs.declared.Visit.{Visit}
@@ -17,7 +17,7 @@ use Rattle.memo.specs.declared.Visit.the-variants.{Solved, Refused}
 use Rattle.memo.specs.Memo.{Rows, entry, height, PayoffRoom, Within, Memo, Extends}
 use Rattle.memo.specs.Visits.{Visits, KeptAs}
 use Rattle.memo.proofs.VisitLaws.{kept-visits}
-use Rattle.solver.specs.Solving.{NodeAt, EnteredAs, Enters}
+use Rattle.solver.specs.Solving.{NodeAt, Asks, EnteredAs, Enters}
 use Rattle.solver.specs.declared.Entered.{Entered}
 
 -- the lists are as long as they were
@@ -26,31 +26,43 @@ pub record AsLong (m m′ : Rows) : Type 0 where
   pub labels : length (m′ .labels) ≡ length (m .labels)
   pub payoffs : length (m′ .payoffs) ≡ length (m .payoffs)
 
--- n child rows, those before i dealt with; m₀ is the memo where the walk began
-pub record Walk (method : Method) (s : List ℕ) (m₀ m : Rows) (row e left n i deepest : ℕ) : Type 0 where
+-- n child rows, those before i dealt with, and i one of e's or the end; m₀ is the memo where the walk began
+pub record Walk (method : Method) (s links : List ℕ) (m₀ m : Rows) (row e left n i deepest : ℕ) : Type 0 where
   pub opens : Opens s
+  pub linked : Linked s links
+  pub chain : Chain s links e i
   pub low : left ≤ 64
   pub node : NodeAt s row e
   pub rows : n ≡ rowCount s 1
-  pub few : n ≤ 4096
-  pub here : i ≤ n
   pub deep : deepest < left
   pub memo : Memo method s m
   pub extends : Extends m₀ m
   pub as-long : AsLong m₀ m
 
-pub walk-starts : {method : Method} {s : List ℕ} (m : Rows) {row e left n : ℕ} → Opens s → left ≤ 64 → 0 < left → Memo method s m → NodeAt s row e → n ≡ rowCount s 1 → Walk method s m m row e left n 0 0
-walk-starts {s = s} m opens low some-depth memo node rows =
-    let few = rows-bound s (opens-layout s opens) 1 (omega arith) in
+-- the first child row of the node in a row
+module _ {s links : List ℕ} {row e : ℕ} (linked : Linked s links) (node : NodeAt s row e) where
+  pub first-room : 2 * row < length links
+  first-room = let a = linked .node-room in let b = node .here in omega arith
+
+  module _ {i : ℕ} (to : i ≡ firstChild links row) where
+    pub first-child : NextOf s e 0 i
+    first-child = rw (to, ← node .entity) (linked .firsts row (node .here))
+
+    pub first-chain : Chain s links e i
+    first-chain = rw (to, ← node .entity) (chain-starts linked row (node .here))
+
+pub walk-starts : {method : Method} {s links : List ℕ} (m : Rows) {row e left n i : ℕ} → Asks method s links m left → 0 < left → NodeAt s row e → n ≡ rowCount s 1 → i ≡ firstChild links row
+    → Walk method s links m m row e left n i 0
+walk-starts m asks some-depth node rows to =
     record {
-      opens = opens;
-      low = low;
+      opens = asks .opens;
+      linked = asks .linked;
+      chain = first-chain (asks .linked) node to;
+      low = asks .low;
       node = node;
       rows = rows;
-      few = omega arith;
-      here = omega arith;
       deep = some-depth;
-      memo = memo;
+      memo = asks .memo;
       extends = λ i h. h;
       as-long = record { heads = refl; labels = refl; payoffs = refl };
     }
@@ -72,44 +84,65 @@ answer-row m m′ q visit =
     let there = visited-as m m′ q visit in
     record { within = there .memo .within _ (there .visited .filled .row); room = there .memo .right _ (there .visited .filled) .sized .payoff-room }
 
-module _ {method : Method} {s : List ℕ} {m₀ m : Rows} {row e left n i deepest : ℕ} (walk : Walk method s m₀ m row e left n i deepest) where
-  pub walk-skips : i < n → Walk method s m₀ m row e left n (i + 1) deepest
-  walk-skips h = record {
-    opens = walk .opens;
-    low = walk .low;
-    node = walk .node;
-    rows = walk .rows;
-    few = walk .few;
-    here = omega arith;
-    deep = walk .deep;
-    memo = walk .memo;
-    extends = walk .extends;
-    as-long = walk .as-long;
-  }
+module _ {method : Method} {s links : List ℕ} {m₀ m : Rows} {row e left n i deepest : ℕ} (walk : Walk method s links m₀ m row e left n i deepest) where
+  -- what a visit of a target asks
+  pub walk-asks : {less : ℕ} → less < left → Asks method s links m less
+  walk-asks h = let low = walk .low in record { opens = walk .opens; linked = walk .linked; low = omega arith; memo = walk .memo }
+
+  -- the next row
+  module _ (turn : i < n) where
+    pub in-rows : i < rowCount s 1
+    in-rows = rw (walk .rows) at turn
+
+    pub next-room : 2 * i + 1 < length links
+    next-room = chain-room (walk .chain) in-rows
+
+    module _ {j : ℕ} (to : j ≡ nextChild links i) where
+      pub next-child : NextOf s e (i + 1) j
+      next-child = rw to (chain-next (walk .chain) in-rows)
+
+      pub next-later : i < j
+      next-later = let h = next-child .after in omega arith
+
+      next-chain : Chain s links e j
+      next-chain = rw to (chain-goes (walk .chain) in-rows)
+
+      pub walk-skips : Walk method s links m₀ m row e left n j deepest
+      walk-skips =
+          record {
+            opens = walk .opens;
+            linked = walk .linked;
+            chain = next-chain;
+            low = walk .low;
+            node = walk .node;
+            rows = walk .rows;
+            deep = walk .deep;
+            memo = walk .memo;
+            extends = walk .extends;
+            as-long = walk .as-long;
+          }
+
+      pub walk-goes : (m′ : Rows) {less target at depth : ℕ} → less < left → Visits method s m m′ less target (Solved at) → AsLong m m′ → depth ≡ max deepest (height (entry m′ at))
+          → Walk method s links m₀ m′ row e left n j depth
+      walk-goes m′ less visit long d =
+          let near = visit .visited .near in
+          let deep = walk .deep in
+          record {
+            opens = walk .opens;
+            linked = walk .linked;
+            chain = next-chain;
+            low = walk .low;
+            node = walk .node;
+            rows = walk .rows;
+            deep = omega arith;
+            memo = visit .memo;
+            extends = λ k h. visit .extends k (walk .extends k h);
+            as-long = record { heads = long .heads ∙ walk .as-long .heads; labels = long .labels ∙ walk .as-long .labels; payoffs = long .payoffs ∙ walk .as-long .payoffs };
+          }
 
   module _ (m′ : Rows) {less target : ℕ} {v : Visit} (visit : Visits method s m m′ less target v) where
     pub walk-refused : {r : Refusal} → solve method (gameOf s) left e ≡ refused r → Visits method s m₀ m′ left e (Refused r)
     walk-refused h = record { memo = visit .memo; extends = λ j k. visit .extends j (walk .extends j k); visited = h }
-
-  pub longer : {m′ : Rows} → AsLong m m′ → AsLong m₀ m′
-  longer l = record { heads = l .heads ∙ walk .as-long .heads; labels = l .labels ∙ walk .as-long .labels; payoffs = l .payoffs ∙ walk .as-long .payoffs }
-
-  pub walk-goes : (m′ : Rows) {less target at depth : ℕ} → less < left → i < n → Visits method s m m′ less target (Solved at) → AsLong m m′ → depth ≡ max deepest (height (entry m′ at)) → Walk method s m₀ m′ row e left n (i + 1) depth
-  walk-goes m′ less h visit long d =
-      let near = visit .visited .near in
-      let deep = walk .deep in
-      record {
-        opens = walk .opens;
-        low = walk .low;
-        node = walk .node;
-        rows = walk .rows;
-        few = walk .few;
-        here = omega arith;
-        deep = omega arith;
-        memo = visit .memo;
-        extends = λ j k. visit .extends j (walk .extends j k);
-        as-long = longer long;
-      }
 
   -- the end: the node's answer is kept
   pub walk-kept : (m′ : Rows) {v : Visit} (a : Answer Solution) → KeptAs m m′ row (deepest + 1) a v → ((k : ℕ) → deepest ≤ k → solve method (gameOf s) (suc k) e ≡ a) → Visits method s m₀ m′ left e v

@@ -1,8 +1,9 @@
 -- What is known of a node that is being solved: which of its child rows are left, and what is held of those before. Definitions only.
-use Prim.Native.Nat.{ℕ, suc, _<_, _≤_}
+use Prim.Native.Nat.{ℕ, suc, _*_, _<_, _≤_}
 use mathlib.Core.Path.{_≡_}
 use mathlib.Core.List.{List, []}
 use mathlib.Core.Option.{Option, none, some}
+use lib.ListN.{length}
 use Rattle.number.specs.Number.{Number}
 use Rattle.answer.specs.Answer.{Answer, done, _>>=_, orRefuse}
 use Rattle.answer.specs.Refusals.{missingTerminalUtility}
@@ -10,12 +11,12 @@ use Rattle.layout.specs.Layout.{rowCount, field}
 use Rattle.graph_relations.specs.RelationRows.{childRow}
 use Rattle.game.specs.declared.ActionEdge.{ActionEdge}
 use Rattle.game.specs.Game.{Game, Chance, terminalOf}
-use Rattle.game.specs.Edges.{actionEdgeIn, chanceOutcomeIn}
-use Rattle.game.proofs.Walk.{collectFrom}
+use Rattle.game.specs.Edges.{actionEdgeIn, chanceOutcomeIn, collectFrom}
 use Rattle.sheet.specs.Meaning.{gameOf, Opens}
+use Rattle.child_rows.specs.Links.{Linked}
 use Rattle.backward_induction.specs.declared.Method.{Method}
 use Rattle.backward_induction.specs.Solve.{Solution, taken, inRange, solve}
-use Rattle.backward_induction.proofs.SolveLaws.{bestFrom, sumsFrom}
+use Rattle.backward_induction.specs.Turns.{bestFrom, sumsFrom}
 use Rattle.memo.specs.Memo.{Rows, Memo, Extends}
 use Rattle.memo.specs.Visits.{Visited}
 use Rattle.turns.specs.declared.Best.{Best}
@@ -31,9 +32,16 @@ pub record NodeAt (s : List ℕ) (row e : ℕ) : Type 0 where
   pub here : row < rowCount s 0
   pub entity : field s 0 row 0 ≡ e
 
+-- what a solve is lent: room for the links, and a memo
+pub record Lent (method : Method) (s links : List ℕ) (m : Rows) : Type 0 where
+  pub node-room : 2 * rowCount s 0 ≤ length links
+  pub child-room : 2 * rowCount s 1 ≤ length links
+  pub memo : Memo method s m
+
 -- what a solve with so much depth left asks
-pub record Asks (method : Method) (s : List ℕ) (m : Rows) (left : ℕ) : Type 0 where
+pub record Asks (method : Method) (s links : List ℕ) (m : Rows) (left : ℕ) : Type 0 where
   pub opens : Opens s
+  pub linked : Linked s links
   pub low : left ≤ 64
   pub memo : Memo method s m
 

@@ -3,7 +3,7 @@ ghost use mathlib.Core.Path.{_≡_};
 ghost use mathlib.Core.Bool.{false};
 ghost use mathlib.Core.List.{_++_, map, reverse};
 ghost use mathlib.Core.Option.{some};
-ghost use Prim.Native.Nat.{ℕ, _+_, _-_, _≤_, _<_};
+ghost use Prim.Native.Nat.{ℕ, _+_, _-_, _≤_, _<_, max};
 ghost use lib.ListN.{take, replicate};
 ghost use Rattle.number.specs.Number.{finite};
 ghost use Rattle.number.specs.Meaning.{meaning};
@@ -22,7 +22,9 @@ ghost use Rattle.backward_induction.specs.declared.Method.the-variants.{ChanceW
 ghost use Rattle.memo.specs.Memo.{Rows, rows, entry, solutionOf, Sized, Within};
 ghost use Rattle.memo.specs.Visits.{Visits, KeptAs};
 ghost use Rattle.solver.specs.Held.{padded, held, heldFor};
-ghost use Rattle.solver.specs.Solving.{NodeAt, Asks, ended, ToWeigh, EnteredAs, Enters};
+ghost use Rattle.child_rows.specs.Links.{Linked};
+ghost use Rattle.turns.specs.declared.Best.the-variants as Bests;
+ghost use Rattle.solver.specs.Solving.{NodeAt, Asks, Lent, ended, Deciding, ToWeigh, EnteredAs, Enters};
 use answer::Check;
 use backward_induction::Method;
 use edges::ActionStep;
@@ -94,25 +96,27 @@ fn solve_terminal(
 }
 
 // A decision: the faults among its edges.
-fn enter_decision(sheet: &[u8], entity: u32, row: usize, player: u32) -> Entered
-    requires { ⌜ Opens (now sheet) × NodeAt (now sheet) row entity × (kindOf (gameOf (now sheet)) entity ≡ some (Kinds.Decision player)) ⌝ }
+fn enter_decision(sheet: &[u8], links: &[u32], entity: u32, row: usize, player: u32) -> Entered
+    requires { ⌜ Opens (now sheet) × Linked (now sheet) (now links) × NodeAt (now sheet) row entity × (kindOf (gameOf (now sheet)) entity ≡ some (Kinds.Decision player)) ⌝ }
     ensures { λ r. ⌜ ((method : Method) (m : Rows) (left : ℕ) → 0 < left → EnteredAs method (now (sheet .entry)) m left entity r) ⌝ }
 {
-    match edges::outgoing_action_edges(sheet, entity) {
+    let from = child_rows::first_child(links, row);
+    match edges::linked_action_edges(sheet, links, entity, from) {
         Check::Refused(r) => Entered::Done(Visit::Refused(r)),
         Check::Passed => Entered::Decision(row, player),
     }
 }
 
 // A chance node: 20 where the method is plain, else the faults among its outcomes.
-fn enter_chance(sheet: &[u8], method: Method, entity: u32, row: usize) -> Entered
-    requires { ⌜ Opens (now sheet) × NodeAt (now sheet) row entity × (kindOf (gameOf (now sheet)) entity ≡ some Kinds.Chance) ⌝ }
+fn enter_chance(sheet: &[u8], links: &[u32], method: Method, entity: u32, row: usize) -> Entered
+    requires { ⌜ Opens (now sheet) × Linked (now sheet) (now links) × NodeAt (now sheet) row entity × (kindOf (gameOf (now sheet)) entity ≡ some Kinds.Chance) ⌝ }
     ensures { λ r. ⌜ ((m : Rows) (left : ℕ) → 0 < left → EnteredAs method (now (sheet .entry)) m left entity r) ⌝ }
 {
     if let Method::Plain = method {
         return Entered::Done(memo::refused(20, entity as u64));
     }
-    match edges::outgoing_chance_outcomes(sheet, entity) {
+    let from = child_rows::first_child(links, row);
+    match edges::linked_chance_outcomes(sheet, links, entity, from) {
         Check::Refused(r) => Entered::Done(Visit::Refused(r)),
         Check::Passed => Entered::Chance(row),
     }
@@ -121,6 +125,7 @@ fn enter_chance(sheet: &[u8], method: Method, entity: u32, row: usize) -> Entere
 // Enters a node with so much depth left: 24, 11, an answer that is known, then by kind as far as no target is solved.
 fn enter(
     sheet: &[u8],
+    links: &[u32],
     heads: &mut [[u32; 5]],
     labels: &mut [[u32; 64]],
     payoffs: &mut [[f64; 8]],
@@ -128,13 +133,13 @@ fn enter(
     entity: u32,
     left: usize,
 ) -> Entered
-    requires { ⌜ Asks method (now sheet) (rows (now heads) (now labels) (now payoffs)) left ⌝ }
+    requires { ⌜ Asks method (now sheet) (now links) (rows (now heads) (now labels) (now payoffs)) left ⌝ }
     ensures { λ r. ⌜ Enters method (now (sheet .entry)) (rows (now (heads .entry)) (now (labels .entry)) (now (payoffs .entry))) (rows (now (heads .exit)) (now (labels .exit)) (now (payoffs .exit))) left entity r ⌝ }
 {
     if left == 0 {
         return Entered::Done(memo::refused(24, entity as u64));
     }
-    let Found::At(row) = layout::find_row(sheet, 0, entity) else {
+    let Found::At(row) = opening::find_row(sheet, 0, entity) else {
         return Entered::Done(memo::refused(11, entity as u64));
     };
     if memo::is_known(heads, row, left) {
@@ -144,14 +149,15 @@ fn enter(
     let kind = node.kind;
     match kind {
         Kind::Terminal => Entered::Done(solve_terminal(sheet, heads, labels, payoffs, entity, row)),
-        Kind::Decision { player } => enter_decision(sheet, entity, row, player),
-        Kind::Chance => enter_chance(sheet, method, entity, row),
+        Kind::Decision { player } => enter_decision(sheet, links, entity, row, player),
+        Kind::Chance => enter_chance(sheet, links, method, entity, row),
     }
 }
 
-// A decision solves its replies.
+// A node: entered, and then its replies or its outcomes are solved.
 fn solve_node(
     sheet: &[u8],
+    links: &[u32],
     heads: &mut [[u32; 5]],
     labels: &mut [[u32; 64]],
     payoffs: &mut [[f64; 8]],
@@ -159,48 +165,85 @@ fn solve_node(
     entity: u32,
     left: usize,
 ) -> Visit
-    requires { ⌜ Asks method (now sheet) (rows (now heads) (now labels) (now payoffs)) left ⌝ }
+    requires { ⌜ Asks method (now sheet) (now links) (rows (now heads) (now labels) (now payoffs)) left ⌝ }
     ensures { λ v. ⌜ Visits method (now (sheet .entry)) (rows (now (heads .entry)) (now (labels .entry)) (now (payoffs .entry))) (rows (now (heads .exit)) (now (labels .exit)) (now (payoffs .exit))) left entity v ⌝ }
 {
-    let entered = enter(sheet, heads, labels, payoffs, method, entity, left);
+    let entered = enter(sheet, links, heads, labels, payoffs, method, entity, left);
     match entered {
         Entered::Done(v) => v,
-        Entered::Chance(row) => {
-            solve_chance(sheet, heads, labels, payoffs, method, entity, row, left - 1)
-        }
-        Entered::Decision(row, player) => {
-            let n = layout::row_count(sheet, 1);
-            let mut best = Best::None;
-            let mut deepest = 0;
-            let mut i = 0;
-            while i < n {
-                let step = edges::action_edge(sheet, entity, i);
-                let ActionStep::Edge(edge) = step else {
-                    i += 1;
-                    continue;
-                };
-                let v = solve_node(sheet, heads, labels, payoffs, method, edge.target, left - 1);
-                let Visit::Solved(at) = v else {
-                    return v;
-                };
-                let turn = turns::reply_to(heads, payoffs, player, best, edge, at);
-                match turn {
-                    ReplyTurn::Stop(r) => return Visit::Refused(r),
-                    ReplyTurn::Go(next) => {
-                        best = next;
-                    }
-                }
-                deepest = memo::deeper(heads, deepest, at);
-                i += 1;
-            }
-            turns::store_best(heads, labels, payoffs, entity, row, best, deepest)
-        }
+        Entered::Decision(row, player) => solve_decision(
+            sheet,
+            links,
+            heads,
+            labels,
+            payoffs,
+            method,
+            entity,
+            row,
+            player,
+            left - 1,
+        ),
+        Entered::Chance(row) => solve_chance(
+            sheet,
+            links,
+            heads,
+            labels,
+            payoffs,
+            method,
+            entity,
+            row,
+            left - 1,
+        ),
     }
+}
+
+// A decision solves its replies.
+fn solve_decision(
+    sheet: &[u8],
+    links: &[u32],
+    heads: &mut [[u32; 5]],
+    labels: &mut [[u32; 64]],
+    payoffs: &mut [[f64; 8]],
+    method: Method,
+    entity: u32,
+    row: usize,
+    player: u32,
+    left: usize,
+) -> Visit
+    requires { ⌜ Asks method (now sheet) (now links) (rows (now heads) (now labels) (now payoffs)) (left + 1) × NodeAt (now sheet) row entity × Deciding method (now sheet) (rows (now heads) (now labels) (now payoffs)) entity player 0 0 Bests.None ⌝ }
+    ensures { λ v. ⌜ Visits method (now (sheet .entry)) (rows (now (heads .entry)) (now (labels .entry)) (now (payoffs .entry))) (rows (now (heads .exit)) (now (labels .exit)) (now (payoffs .exit))) (left + 1) entity v ⌝ }
+{
+    let n = layout::row_count(sheet, 1);
+    let mut best = Best::None;
+    let mut deepest = 0;
+    let mut i = child_rows::first_child(links, row);
+    while i < n {
+        let step = edges::action_edge(sheet, entity, i);
+        i = child_rows::next_child(links, i);
+        let ActionStep::Edge(edge) = step else {
+            continue;
+        };
+        let target = edge.target;
+        let v = solve_node(sheet, links, heads, labels, payoffs, method, target, left);
+        let Visit::Solved(at) = v else {
+            return v;
+        };
+        let turn = turns::reply_to(heads, payoffs, player, best, edge, at);
+        match turn {
+            ReplyTurn::Stop(r) => return Visit::Refused(r),
+            ReplyTurn::Go(next) => {
+                best = next;
+            }
+        }
+        deepest = memo::deeper(heads, deepest, at);
+    }
+    turns::store_best(heads, labels, payoffs, entity, row, best, deepest)
 }
 
 // A chance node solves its outcomes.
 fn solve_chance(
     sheet: &[u8],
+    links: &[u32],
     heads: &mut [[u32; 5]],
     labels: &mut [[u32; 64]],
     payoffs: &mut [[f64; 8]],
@@ -209,20 +252,21 @@ fn solve_chance(
     row: usize,
     left: usize,
 ) -> Visit
-    requires { ⌜ Asks method (now sheet) (rows (now heads) (now labels) (now payoffs)) (left + 1) × NodeAt (now sheet) row entity × ToWeigh method (now sheet) entity ⌝ }
+    requires { ⌜ Asks method (now sheet) (now links) (rows (now heads) (now labels) (now payoffs)) (left + 1) × NodeAt (now sheet) row entity × ToWeigh method (now sheet) entity ⌝ }
     ensures { λ v. ⌜ Visits method (now (sheet .entry)) (rows (now (heads .entry)) (now (labels .entry)) (now (payoffs .entry))) (rows (now (heads .exit)) (now (labels .exit)) (now (payoffs .exit))) (left + 1) entity v ⌝ }
 {
     let n = layout::row_count(sheet, 1);
     let mut sums = turns::no_sums();
     let mut deepest = 0;
-    let mut i = 0;
+    let mut i = child_rows::first_child(links, row);
     while i < n {
         let step = edges::chance_outcome(sheet, entity, i);
+        i = child_rows::next_child(links, i);
         let ChanceStep::Outcome(outcome) = step else {
-            i += 1;
             continue;
         };
-        let v = solve_node(sheet, heads, labels, payoffs, method, outcome.target, left);
+        let target = outcome.target;
+        let v = solve_node(sheet, links, heads, labels, payoffs, method, target, left);
         let Visit::Solved(at) = v else {
             return v;
         };
@@ -234,7 +278,6 @@ fn solve_chance(
         let next = turn.sums;
         sums = next;
         deepest = memo::deeper(heads, deepest, at);
-        i += 1;
     }
     turns::store_sums(heads, labels, payoffs, entity, row, sums, deepest)
 }
@@ -291,27 +334,114 @@ fn solution_at(heads: &[[u32; 5]], labels: &[[u32; 64]], payoffs: &[[f64; 8]], r
     }
 }
 
-// The solve of an opened sheet, to a depth.
-fn solve_to(sheet: &[u8], method: Method, start: u32, depth: usize) -> Solved
-    requires { ⌜ Opens (now sheet) × (depth ≤ 64) ⌝ }
+// The solve of an opened sheet, to a depth, in links and a memo that are lent.
+fn solve_in(
+    sheet: &[u8],
+    links: &mut [u32],
+    heads: &mut [[u32; 5]],
+    labels: &mut [[u32; 64]],
+    payoffs: &mut [[f64; 8]],
+    method: Method,
+    start: u32,
+    depth: usize,
+) -> Solved
+    requires { ⌜ Opens (now sheet) × (depth ≤ 64) × Lent method (now sheet) (now links) (rows (now heads) (now labels) (now payoffs)) ⌝ }
     ensures { λ r. ⌜ held r ≡ heldFor (solution-with method (gameOf (now (sheet .entry))) depth start) ⌝ }
 {
-    let mut heads = [[0u32; 5]; 1024];
-    let mut labels = [[0u32; 64]; 1024];
-    let mut payoffs = [[0.0f64; 8]; 1024];
-    let v = solve_node(
+    child_rows::link(sheet, links);
+    let v = solve_node(sheet, links, heads, labels, payoffs, method, start, depth);
+    match v {
+        Visit::Refused(r) => refused_answer(Check::Refused(r)),
+        Visit::Solved(row) => solution_at(heads, labels, payoffs, row),
+    }
+}
+
+// A sheet of at most 16 nodes and 16 children: what is lent is small, since all of it is cleared first.
+fn solve_16(sheet: &[u8], method: Method, start: u32, depth: usize) -> Solved
+    requires { ⌜ Opens (now sheet) × (depth ≤ 64) × (rowCount (now sheet) 0 ≤ 16) × (rowCount (now sheet) 1 ≤ 16) ⌝ }
+    ensures { λ r. ⌜ held r ≡ heldFor (solution-with method (gameOf (now (sheet .entry))) depth start) ⌝ }
+{
+    let mut links = [0u32; 32];
+    let mut heads = [[0u32; 5]; 16];
+    let mut labels = [[0u32; 64]; 16];
+    let mut payoffs = [[0.0f64; 8]; 16];
+    solve_in(
         sheet,
+        &mut links,
         &mut heads,
         &mut labels,
         &mut payoffs,
         method,
         start,
         depth,
-    );
-    match v {
-        Visit::Refused(r) => refused_answer(Check::Refused(r)),
-        Visit::Solved(row) => solution_at(&heads, &labels, &payoffs, row),
+    )
+}
+
+// A sheet of at most 128 nodes and 128 children.
+fn solve_128(sheet: &[u8], method: Method, start: u32, depth: usize) -> Solved
+    requires { ⌜ Opens (now sheet) × (depth ≤ 64) × (rowCount (now sheet) 0 ≤ 128) × (rowCount (now sheet) 1 ≤ 128) ⌝ }
+    ensures { λ r. ⌜ held r ≡ heldFor (solution-with method (gameOf (now (sheet .entry))) depth start) ⌝ }
+{
+    let mut links = [0u32; 256];
+    let mut heads = [[0u32; 5]; 128];
+    let mut labels = [[0u32; 64]; 128];
+    let mut payoffs = [[0.0f64; 8]; 128];
+    solve_in(
+        sheet,
+        &mut links,
+        &mut heads,
+        &mut labels,
+        &mut payoffs,
+        method,
+        start,
+        depth,
+    )
+}
+
+// Any sheet.
+fn solve_1024(sheet: &[u8], method: Method, start: u32, depth: usize) -> Solved
+    requires { ⌜ Opens (now sheet) × (depth ≤ 64) × (rowCount (now sheet) 0 ≤ 1024) × (rowCount (now sheet) 1 ≤ 1024) ⌝ }
+    ensures { λ r. ⌜ held r ≡ heldFor (solution-with method (gameOf (now (sheet .entry))) depth start) ⌝ }
+{
+    let mut links = [0u32; 2048];
+    let mut heads = [[0u32; 5]; 1024];
+    let mut labels = [[0u32; 64]; 1024];
+    let mut payoffs = [[0.0f64; 8]; 1024];
+    solve_in(
+        sheet,
+        &mut links,
+        &mut heads,
+        &mut labels,
+        &mut payoffs,
+        method,
+        start,
+        depth,
+    )
+}
+
+// The greater of the numbers of nodes and of children.
+fn most_rows(sheet: &[u8]) -> usize
+    requires { ⌜ Opens (now sheet) ⌝ }
+    ensures { λ r. ⌜ r ≡ max (rowCount (now (sheet .entry)) 0) (rowCount (now (sheet .entry)) 1) ⌝ }
+{
+    let nodes = layout::row_count(sheet, 0);
+    let children = layout::row_count(sheet, 1);
+    if nodes < children { children } else { nodes }
+}
+
+// The solve of an opened sheet, to a depth.
+fn solve_to(sheet: &[u8], method: Method, start: u32, depth: usize) -> Solved
+    requires { ⌜ Opens (now sheet) × (depth ≤ 64) ⌝ }
+    ensures { λ r. ⌜ held r ≡ heldFor (solution-with method (gameOf (now (sheet .entry))) depth start) ⌝ }
+{
+    let n = most_rows(sheet);
+    if n <= 16 {
+        return solve_16(sheet, method, start, depth);
     }
+    if n <= 128 {
+        return solve_128(sheet, method, start, depth);
+    }
+    solve_1024(sheet, method, start, depth)
 }
 
 // Any bytes, start and limit: 27, the refusals of opening, then the solve.

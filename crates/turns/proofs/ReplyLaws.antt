@@ -15,7 +15,8 @@ use Rattle.answer.specs.Refusals.{missingPlayerPayoff}
 use Rattle.answer.specs.Answer.{done}
 use Rattle.game.specs.declared.ActionEdge.{ActionEdge}
 use Rattle.backward_induction.specs.Solve.{Reply, better}
-use Rattle.backward_induction.proofs.SolveLaws.{leading, reply-lacks, reply-done}
+use Rattle.backward_induction.specs.Turns.{leading}
+use Rattle.backward_induction.proofs.SolveLaws.{reply-lacks, reply-done}
 use Rattle.memo.specs.Memo.{Rows, entry, ending, payoffCount, solutionOf, Filled}
 use Rattle.turns.specs.declared.Reply.{Reply as Candidate}
 use Rattle.turns.specs.declared.Best.{Best}

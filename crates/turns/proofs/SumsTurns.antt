@@ -15,7 +15,8 @@ use Rattle.answer.specs.declared.Check.the-variants.{Passed}
 use Rattle.answer.specs.Fault.{faultOf}
 use Rattle.answer.specs.Refusals.{inconsistentChancePayoffCount, noOutgoingChanceOutcomes, outOfRange}
 use Rattle.backward_induction.specs.Solve.{products}
-use Rattle.backward_induction.proofs.SolveLaws.{addedTo, added-differs, added-same, in-range, not-in-range}
+use Rattle.backward_induction.specs.Turns.{addedTo}
+use Rattle.backward_induction.proofs.SolveLaws.{added-differs, added-same, in-range, not-in-range}
 use Rattle.backward_induction.proofs.Bounds.{products-length}
 use Rattle.memo.specs.declared.Visit.{Visit}
 use Rattle.memo.specs.declared.Visit.the-variants.{Solved, Refused}

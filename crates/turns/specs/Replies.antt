@@ -10,7 +10,7 @@ use Rattle.answer.specs.Answer.{Answer, refused, done, _>>=_, orRefuse}
 use Rattle.answer.specs.Refusals.{noOutgoingActions}
 use Rattle.game.specs.declared.ActionEdge.{ActionEdge}
 use Rattle.backward_induction.specs.Solve.{Solution, Reply, reply, taken}
-use Rattle.backward_induction.proofs.SolveLaws.{leading}
+use Rattle.backward_induction.specs.Turns.{leading}
 use Rattle.memo.specs.Memo.{Rows, entry, solutionOf, actionCount, Sized, Within, Filled}
 use Rattle.turns.specs.declared.Reply.{Reply as Candidate}
 use Rattle.turns.specs.declared.Best.{Best}

@@ -9,7 +9,7 @@ ghost use Rattle.number.specs.Number.{Number};
 ghost use Rattle.number.specs.Meaning.{meaning};
 ghost use Rattle.number.specs.Answers.{plusProduct};
 ghost use Rattle.backward_induction.specs.Solve.{taken, products};
-ghost use Rattle.backward_induction.proofs.SolveLaws.{addedTo};
+ghost use Rattle.backward_induction.specs.Turns.{addedTo};
 ghost use Rattle.memo.specs.Memo.{rows, payoffsOf, PayoffRoom, Within};
 ghost use Rattle.memo.specs.Visits.{Keeps, KeptAs};
 ghost use Rattle.turns.specs.Replies.{replyIn, leadIn, decided, betterOf, Replied, Extendable, ExtendableBest};

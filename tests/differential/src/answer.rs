@@ -87,6 +87,7 @@ impl Call {
     }
 
     /// The length of the buffer that the call is lent; 0 where it takes none.
+    #[cfg_attr(not(library), allow(dead_code))]
     pub fn room(&self) -> usize {
         match *self {
             Call::Paths { room, .. } | Call::Sets { room } => room,

@@ -2,8 +2,8 @@
 use mathlib.Core.Path.{refl}
 use Prim.Native.Nat.{_-_}
 use native.Mathlib.Omega.{arith}
-use Rattle.kuhn.specs.Regret.{averageOf}
-use Rattle.kuhn.proofs.Entries.{Filled, filled-more, filled, entry-0}
+use Rattle.kuhn_poker.specs.Regret.{averageOf}
+use Rattle.kuhn_poker.proofs.Entries.{Filled, filled-more, filled, entry-0}
 use Rattle.kuhn.proofs.average_of.Statement.{statement}
 use Rattle.kuhn.proofs.average_of.Tie as tie
 

@@ -5,10 +5,10 @@ use native.Mathlib.Omega.{arith}
 use lib.ListN.{length}
 use mathlib.Core.List.{List}
 use lib.Ieee.{Float}
-use Rattle.kuhn.specs.Table.{table}
-use Rattle.kuhn.specs.Regret.{averageOf}
+use Rattle.kuhn_poker.specs.Table.{table}
+use Rattle.kuhn_poker.specs.Regret.{averageOf}
 use Rattle.kuhn.specs.Solve.{State, state, iterate, iterated, averageStrategy}
-use Rattle.kuhn.proofs.Iteration.{sized, iterated-more}
+use Rattle.kuhn.proofs.Iterations.{sized, iterated-more}
 use Rattle.kuhn.proofs.average_strategy.Statement.{statement}
 use Rattle.kuhn.proofs.average_strategy.Tie as tie
 

@@ -1,5 +1,5 @@
 -- `kuhn::cumulative_regret` meets its contract.
-use Rattle.kuhn.specs.Regret.{cumulativeRegret}
+use Rattle.kuhn.specs.Variants.{cumulativeRegret}
 use borrow.Author.Needs.{needs}
 use Rattle.kuhn.proofs.cumulative_regret.Statement.{statement}
 use Rattle.kuhn.proofs.cumulative_regret.Tie as tie

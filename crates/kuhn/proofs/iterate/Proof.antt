@@ -1,5 +1,5 @@
 -- `kuhn::iterate` meets its contract.
-use Rattle.kuhn.proofs.Iteration.{iterate-is}
+use Rattle.kuhn.proofs.Iterations.{iterate-is}
 use borrow.Author.Needs.{needs}
 use Rattle.kuhn.proofs.iterate.Statement.{statement}
 use Rattle.kuhn.proofs.iterate.Tie as tie

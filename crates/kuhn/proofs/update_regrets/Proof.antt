@@ -7,8 +7,8 @@ use lib.ListN.{length, getD, set, length-set}
 use lib.Seq.{getD-set-same, getD-set-other}
 use lib.Ieee.{Float, nan}
 use borrow.Author.Count.{below-more}
-use Rattle.kuhn.specs.Regret.{cumulativeRegret}
-use Rattle.kuhn.proofs.Entries.{tabulate-ext}
+use Rattle.kuhn.specs.Variants.{cumulativeRegret}
+use Rattle.kuhn_poker.proofs.Entries.{tabulate-ext}
 use Rattle.kuhn.proofs.update_regrets.Statement.{statement}
 use Rattle.kuhn.proofs.update_regrets.Tie as tie
 

@@ -1,6 +1,6 @@
 -- `kuhn::weight_of` meets its contract.
 use native.Mathlib.Omega.{arith}
-use Rattle.kuhn.specs.Regret.{weightOf}
+use Rattle.kuhn.specs.Variants.{weightOf}
 use Rattle.kuhn.proofs.Casts.{exact}
 use borrow.Author.Needs.{needs}
 use Rattle.kuhn.proofs.weight_of.Statement.{statement}

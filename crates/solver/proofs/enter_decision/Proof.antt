@@ -2,12 +2,19 @@
 use mathlib.Core.Path.{sym, ap, _∙_}
 use borrow.Author.Needs.{needs}
 use Rattle.answer.specs.Fault.{faultOf}
+use Rattle.solver.proofs.Walks.{first-room, first-child, first-chain}
 use Rattle.solver.proofs.Entering.{decision-refused, decision-starts}
 use Rattle.solver.proofs.enter_decision.Statement.{statement}
 use Rattle.solver.proofs.enter_decision.Tie as tie
 
-outgoing-action-edges-requires : tie.Need-outgoing-action-edges-requires
-outgoing-action-edges-requires c κs = search needs
+first-child-requires : tie.Need-first-child-requires
+first-child-requires c κs = let p = c .before .before .pre in first-room (p .1) (p .2)
+
+linked-action-edges-requires : tie.Need-linked-action-edges-requires
+linked-action-edges-requires c κs =
+    let p = c .before .before .before .pre in
+    let to = c .first-child .ensures in
+    (p .0, first-child (p .1) (p .2) to, first-chain (p .1) (p .2) to)
 
 enum-known-r : tie.Need-enum-known-r
 enum-known-r c = search needs
@@ -17,17 +24,15 @@ enum-told c = search needs
 
 returns : tie.Need-returns
 returns c =
-    let start = c .before .before .before .before .before in
-    let after-outgoing-action-edges = c .before .before .before in
-    let after-r = c .before in
-    λ method m left h. decision-refused method (start .pre .1) (start .pre .2) m left h _ (sym (ap faultOf (after-r .r .given .1)) ∙ after-outgoing-action-edges .outgoing-action-edges .ensures)
+    let p = c .before .before .before .before .before .before .before .pre in
+    λ method m left h. decision-refused method (p .2) (p .3) m left h _ (sym (ap faultOf (c .before .r .given .1)) ∙ c .before .before .before .linked-action-edges .ensures)
 
 returns-2 : tie.Need-returns-2
 returns-2 c =
-    let start = c .before .before .before .before in
-    let after-outgoing-action-edges = c .before .before in
-    λ method m left h. decision-starts method (start .pre .1) (start .pre .2) m left h (sym (ap faultOf (c .enum-told .given .1)) ∙ after-outgoing-action-edges .outgoing-action-edges .ensures)
+    let p = c .before .before .before .before .before .before .pre in
+    λ method m left h. decision-starts method (p .2) (p .3) m left h (sym (ap faultOf (c .enum-told .given .1)) ∙ c .before .before .linked-action-edges .ensures)
 
 pub enter-decision-spec : {M : Type 1} → statement M
 enter-decision-spec =
-    tie.close (tie.spec outgoing-action-edges-requires enum-known-r enum-told returns returns-2)
+    tie.close
+    (tie.spec first-child-requires linked-action-edges-requires enum-known-r enum-told returns returns-2)

@@ -1,0 +1,29 @@
+-- `next_child` answers the second link of a pair.
+use Prim.Native.Nat.{_+_, _*_}
+use native.Mathlib.Omega.{arith}
+use borrow.Author.Needs.{needs}
+use Rattle.child_rows.proofs.next_child.Statement.{statement}
+use Rattle.child_rows.proofs.next_child.Tie as tie
+
+mul-result : tie.Need-mul-result
+mul-result c = search needs
+
+add-result : tie.Need-add-result
+add-result c = search needs
+
+mul-result-2 : tie.Need-mul-result-2
+mul-result-2 c = search needs
+
+shared-slice-read-result : tie.Need-shared-slice-read-result
+shared-slice-read-result c = search needs
+
+cast-result : tie.Need-cast-result
+cast-result c = omega (arith, c .shared-slice-known .given (2 * c .before .args .i + 1))
+
+returns : tie.Need-returns
+returns c = search needs
+
+pub next-child-spec : {M : Type 1} → statement M
+next-child-spec =
+    tie.close
+    (tie.spec mul-result add-result mul-result-2 shared-slice-read-result cast-result returns)

@@ -1,0 +1,62 @@
+// The child rows of a sheet linked by parent, so that a walk along a node's children meets no other row. The links stand in pairs:
+// the first child row of a node row, and the next of the same parent after a child row. The number of child rows is the end.
+ghost use mathlib.Core.Path.{_≡_};
+ghost use Prim.Native.Nat.{ℕ, _+_, _*_, _≤_, _<_};
+ghost use lib.ListN.{length};
+ghost use Rattle.layout.specs.Layout.{rowCount};
+ghost use Rattle.sheet.specs.Meaning.{Opens};
+ghost use Rattle.child_rows.specs.Links.{firstChild, nextChild, LinkedFrom, Linked};
+use rows::Found;
+
+pub fn first_child(links: &[u32], row: usize) -> usize
+    requires { ⌜ 2 * row < length (now links) ⌝ }
+    ensures { λ r. ⌜ r ≡ firstChild (now (links .entry)) row ⌝ }
+{
+    links[2 * row] as usize
+}
+
+pub fn next_child(links: &[u32], i: usize) -> usize
+    requires { ⌜ 2 * i + 1 < length (now links) ⌝ }
+    ensures { λ r. ⌜ r ≡ nextChild (now (links .entry)) i ⌝ }
+{
+    links[2 * i + 1] as usize
+}
+
+// The first n node rows have no child row yet.
+fn unlink(links: &mut [u32], n: usize, end: u32)
+    requires { ⌜ 2 * n ≤ length (now links) ⌝ }
+    ensures { λ _. ⌜ ((j : ℕ) → j < n → firstChild (now (links .exit)) j ≡ end) ⌝ }
+{
+    let mut j = 0;
+    while j < n {
+        links[2 * j] = end;
+        j += 1;
+    }
+}
+
+// Child row i in front of the child rows of its parent.
+fn link_row(sheet: &[u8], links: &mut [u32], i: usize)
+    requires { ⌜ Opens (now sheet) × (i < rowCount (now sheet) 1) × LinkedFrom (now sheet) (i + 1) (now links) ⌝ }
+    ensures { λ _. ⌜ LinkedFrom (now (sheet .entry)) i (now (links .exit)) ⌝ }
+{
+    let parent = layout::u32_field(sheet, 1, i, 4);
+    let Found::At(r) = opening::find_row(sheet, 0, parent) else {
+        return;
+    };
+    links[2 * i + 1] = links[2 * r];
+    links[2 * r] = i as u32;
+}
+
+// Links the child rows by parent.
+pub fn link(sheet: &[u8], links: &mut [u32])
+    requires { ⌜ Opens (now sheet) × (2 * rowCount (now sheet) 0 ≤ length (now links)) × (2 * rowCount (now sheet) 1 ≤ length (now links)) ⌝ }
+    ensures { λ _. ⌜ Linked (now (sheet .entry)) (now (links .exit)) ⌝ }
+{
+    let n = layout::row_count(sheet, 1);
+    unlink(links, layout::row_count(sheet, 0), n as u32);
+    let mut i = n;
+    while 0 < i {
+        i -= 1;
+        link_row(sheet, links, i);
+    }
+}
