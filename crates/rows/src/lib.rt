@@ -73,7 +73,8 @@ fn evenly_spaced(rows: &[u8], w: usize, n: usize, entity: u32) -> usize
     if spacing == 0 {
         return 0;
     }
-    let i = distance(first, entity) as usize / spacing as usize;
+    let gap = distance(first, entity);
+    let i = if spacing == 1 { gap } else { gap / spacing } as usize;
     if i < n {
         return i;
     }

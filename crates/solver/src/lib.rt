@@ -356,15 +356,15 @@ fn solve_in(
     }
 }
 
-// A sheet of at most 16 nodes and 16 children: what is lent is small, since all of it is cleared first.
-fn solve_16(sheet: &[u8], method: Method, start: u32, depth: usize) -> Solved
-    requires { ⌜ Opens (now sheet) × (depth ≤ 64) × (rowCount (now sheet) 0 ≤ 16) × (rowCount (now sheet) 1 ≤ 16) ⌝ }
+// A sheet of at most 32 nodes and 32 children: what is lent is small, since all of it is cleared first.
+fn solve_32(sheet: &[u8], method: Method, start: u32, depth: usize) -> Solved
+    requires { ⌜ Opens (now sheet) × (depth ≤ 64) × (rowCount (now sheet) 0 ≤ 32) × (rowCount (now sheet) 1 ≤ 32) ⌝ }
     ensures { λ r. ⌜ held r ≡ heldFor (solution-with method (gameOf (now (sheet .entry))) depth start) ⌝ }
 {
-    let mut links = [0u32; 32];
-    let mut heads = [[0u32; 5]; 16];
-    let mut labels = [[0u32; 64]; 16];
-    let mut payoffs = [[0.0f64; 8]; 16];
+    let mut links = [0u32; 64];
+    let mut heads = [[0u32; 5]; 32];
+    let mut labels = [[0u32; 64]; 32];
+    let mut payoffs = [[0.0f64; 8]; 32];
     solve_in(
         sheet,
         &mut links,
@@ -435,8 +435,8 @@ fn solve_to(sheet: &[u8], method: Method, start: u32, depth: usize) -> Solved
     ensures { λ r. ⌜ held r ≡ heldFor (solution-with method (gameOf (now (sheet .entry))) depth start) ⌝ }
 {
     let n = most_rows(sheet);
-    if n <= 16 {
-        return solve_16(sheet, method, start, depth);
+    if n <= 32 {
+        return solve_32(sheet, method, start, depth);
     }
     if n <= 128 {
         return solve_128(sheet, method, start, depth);

@@ -7,8 +7,8 @@ use Rattle.solver.proofs.solve_to.Tie as tie
 most-rows-requires : tie.Need-most-rows-requires
 most-rows-requires c κs = search needs
 
-solve-16-requires : tie.Need-solve-16-requires
-solve-16-requires c κs = search needs
+solve-32-requires : tie.Need-solve-32-requires
+solve-32-requires c κs = search needs
 
 returns : tie.Need-returns
 returns c = search needs
@@ -30,7 +30,7 @@ solve-to-spec =
     tie.close
     (tie.spec
     most-rows-requires
-    solve-16-requires
+    solve-32-requires
     returns
     solve-128-requires
     returns-2
