@@ -18,13 +18,14 @@ use Rattle.backward_induction.specs.Solve.{Solution, solve}
 use Rattle.backward_induction.specs.Call.{depthOf, solution}
 
 -- ---- the depth that a limit means
-pub depth-zero : depthOf 0 ≡ 32
-unfolding depthOf
-depth-zero = refl
+module _ (limit : ℕ) where
+  pub default-depth : limit ≡ 0 → 32 ≡ depthOf limit
+  unfolding depthOf
+  default-depth h = rw h
 
-pub depth-named : (limit : ℕ) → 1 ≤ limit → depthOf limit ≡ limit
-unfolding depthOf
-depth-named limit h = rw (ne-eqb limit 0 (λ e. omega arith))
+  pub own-depth : (limit ≡ 0 → ⊥) → limit ≡ depthOf limit
+  unfolding depthOf
+  own-depth h = rw (ne-eqb limit 0 h)
 
 pub depth-range : (limit : ℕ) → limit ≤ 64 → (1 ≤ depthOf limit) × (depthOf limit ≤ 64)
 unfolding depthOf
@@ -60,7 +61,7 @@ module _ (method : Method) (s : List ℕ) (limit : ℕ) where
 -- ---- a limit from 1 to 64
 module _ (method : Method) (s : List ℕ) (d : ℕ) (least : 1 ≤ d) (most : d ≤ 64) where
   pub call-is : (n : ℕ) → solution method s n d ≡ (opening s >>= λ g. solve method g d n)
-  call-is n = call-within method s d most n ∙ rw (depth-named d least)
+  call-is n = call-within method s d most n ∙ rw (← own-depth d (λ e. omega arith))
 
   pub call-opened : Opens s → (n : ℕ) → solution method s n d ≡ solve method (gameOf s) d n
   call-opened ok n = call-is n ∙ rw (opening-done s ok)

@@ -4,7 +4,6 @@ ghost use mathlib.Core.Option.{none};
 ghost use Prim.Native.Nat.{_+_, _≤_, _<_};
 ghost use lib.ListN.{length};
 ghost use Rattle.answer.specs.Fault.{faultOf, first};
-ghost use Rattle.rows.specs.Rows.{findRow, foundAt};
 ghost use Rattle.layout.specs.Layout.{width, rowLimit, rootOf, offsetOf, lengthOf, startOf, sectionFault, layoutFault, section, rowCount, field, field64};
 use answer::Check;
 use answer::refuse;
@@ -159,15 +158,4 @@ pub fn u64_field(sheet: &[u8], k: usize, i: usize, f: usize) -> u64
     ensures { λ r. ⌜ r ≡ field64 (now (sheet .entry)) k i f ⌝ }
 {
     rows::field64(section_of(sheet, k), width_of(sheet, k), i, f)
-}
-
-// The row of section k that names the entity.
-pub fn find_row(sheet: &[u8], k: usize, entity: u32) -> rows::Found
-    requires { ⌜ (k < 10) × (layoutFault (now sheet) ≡ none) × (4 ≤ width (now sheet) k) ⌝ }
-    ensures { λ r. ⌜ foundAt r ≡ findRow (width (now (sheet .entry)) k) (section (now (sheet .entry)) k) (rowCount (now (sheet .entry)) k) entity ⌝ }
-{
-    let w = width_of(sheet, k);
-    let rows = section_of(sheet, k);
-    let n = rows::count(rows, w);
-    rows::find_row(rows, w, n, entity)
 }

@@ -11,10 +11,9 @@ use lib.ListN.{length, getD, set, replicate, length-set, length-replicate, getD-
 use lib.Seq.{getD-set-same, getD-set-other}
 use Rattle.answer.specs.declared.Refusal.{Refusal}
 use Rattle.answer.specs.Answer.{refused, done}
-use Rattle.layout.specs.Layout.{rowLimit, rowCount, field}
-use Rattle.layout.proofs.LayoutLaws.{rows-most}
+use Rattle.layout.specs.Layout.{rowCount, field}
 use Rattle.sheet.specs.Meaning.{gameOf, Opens}
-use Rattle.sheet.proofs.OpeningLaws.{opens-layout}
+use Rattle.sheet.proofs.OpeningLaws.{few-nodes}
 use Rattle.path_counts.specs.declared.Visit.{Visit}
 use Rattle.path_counts.specs.declared.Visit.the-variants.{Counted, Refused}
 use Rattle.path_counts.specs.declared.Entered.{Entered}
@@ -23,13 +22,9 @@ use Rattle.path_counts.specs.Paths.{paths}
 use Rattle.path_counts.specs.Counts.{height, Right, Memo, known, RowOf, CountedIn, Visits, Inner, Enters, wordCount, sizeFrom}
 use Rattle.path_counts.specs.declared.Entered.the-variants as Entering
 
-pub few-rows : (s : List ℕ) → Opens s → rowCount s 0 ≤ 1024
-unfolding rowLimit
-few-rows s ok = rows-most s (opens-layout s ok) 0 (omega arith)
-
 pub empty-memo : (s : List ℕ) → Opens s → Memo s (replicate 1024 (replicate 3 0))
 empty-memo s ok =
-    let few = few-rows s ok in
+    let few = few-nodes s ok in
     record {
       within = simp length-replicate few;
       right = λ i l h. (

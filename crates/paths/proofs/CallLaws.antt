@@ -5,7 +5,7 @@ use mathlib.Core.List.{List, []}
 use mathlib.Core.Option.{none}
 use native.Mathlib.Nat.{zero-add}
 use native.Mathlib.Omega.{arith}
-use borrow.Author.Tests.{lt-ltb, le-ltb, eq-eqb, ne-eqb}
+use borrow.Author.Tests.{lt-ltb, le-ltb}
 use lib.ListN.{length}
 use Rattle.answer.specs.declared.Refusal.{Refusal}
 use Rattle.answer.specs.Answer.{Answer, refused, done, _>>=_, faultIn}
@@ -91,11 +91,3 @@ module _ (s : List ℕ) (start limit : ℕ) (out : List ℕ) where
         → left ≡ outcome out (listingFrom (gameOf s) depth start (length out)) → left ≡ outcome out (listing s start limit (length out))
     unfolding listing
     then-listed ok depth h p = rw (listing, le-ltb 64 limit l, given-false _ _ refl, opening-done s ok, ← h) p
-
-pub depth-zero : (limit : ℕ) → limit ≡ 0 → 32 ≡ depthOf limit
-unfolding depthOf
-depth-zero limit h = rw (eq-eqb limit 0 h)
-
-pub depth-given : (limit : ℕ) → (limit ≡ 0 → ⊥) → limit ≡ depthOf limit
-unfolding depthOf
-depth-given limit h = rw (ne-eqb limit 0 h)

@@ -1,15 +1,17 @@
--- What opening a sheet answers: its game where it has no fault, and its fault otherwise.
-use Prim.Native.Nat.{ℕ}
+-- What opening a sheet answers: its game where it has no fault, and its fault otherwise; and how few rows it then has.
+use Prim.Native.Nat.{ℕ, _≤_}
 use mathlib.Core.Path.{_≡_, refl, sym, ap, _∙_}
 use mathlib.Core.List.{List}
 use mathlib.Core.Option.{none, some}
+use native.Mathlib.Omega.{arith}
 use Rattle.answer.specs.declared.Refusal.{Refusal}
 use Rattle.answer.specs.declared.Check.{Check}
 use Rattle.answer.specs.declared.Check.the-variants.{Passed, Refused}
 use Rattle.answer.specs.Fault.{Fault}
 use Rattle.answer.specs.Answer.{refused, done, unless}
 use Rattle.answer.proofs.AnswerLaws.{refused-not-done, done-injective}
-use Rattle.layout.specs.Layout.{layoutFault}
+use Rattle.layout.specs.Layout.{rowLimit, layoutFault, rowCount}
+use Rattle.layout.proofs.LayoutLaws.{rows-most}
 use Rattle.opening.specs.SheetFault.{sheetFault}
 use Rattle.opening.proofs.AcceptedRows.{layout-ok}
 use Rattle.game.specs.Game.{Game}
@@ -44,3 +46,13 @@ module _ (s : List ℕ) where
 
     pub refused-opening : (r : Refusal) → v ≡ Refused r → opening s ≡ refused r
     refused-opening r p = sym e ∙ ap (opened s) p
+
+-- no sheet that opens has more than 1,024 nodes or children
+module _ (s : List ℕ) (opens : Opens s) where
+  pub few-nodes : rowCount s 0 ≤ 1024
+  unfolding rowLimit
+  few-nodes = rows-most s (opens-layout s opens) 0 (omega arith)
+
+  pub few-children : rowCount s 1 ≤ 1024
+  unfolding rowLimit
+  few-children = rows-most s (opens-layout s opens) 1 (omega arith)

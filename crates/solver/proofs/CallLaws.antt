@@ -3,34 +3,22 @@ use mathlib.Core.Path.{_≡_}
 use mathlib.Core.List.{List}
 use Prim.Native.Nat.{ℕ, _*_, _<_, _≤_}
 use native.Mathlib.Omega.{arith}
-use borrow.Author.Tests.{lt-ltb, le-ltb, ne-eqb}
-use lib.Dec.{lit<}
+use borrow.Author.Tests.{lt-ltb, le-ltb}
 use lib.Ieee.{binary64, ofBits}
 use lib.ListN.{replicate, length-replicate}
 use Rattle.answer.specs.declared.Refusal.{Refusal}
 use Rattle.answer.specs.Fault.{given}
 use Rattle.answer.specs.Answer.{refused}
 use Rattle.answer.specs.Refusals.{limitAbove}
-use Rattle.layout.specs.Layout.{rowCount, rowLimit}
-use Rattle.layout.proofs.LayoutLaws.{rows-most}
+use Rattle.layout.specs.Layout.{rowCount}
 use Rattle.sheet.specs.Meaning.{gameOf, opening, Opens}
-use Rattle.sheet.proofs.OpeningLaws.{opens-layout, opening-done}
+use Rattle.sheet.proofs.OpeningLaws.{opening-done}
 use Rattle.backward_induction.specs.declared.Method.{Method}
 use Rattle.backward_induction.specs.Solve.{solve}
 use Rattle.backward_induction.specs.Call.{depthOf, solution}
 use Rattle.memo.specs.Memo.{rows}
 use Rattle.memo.proofs.MemoLaws.{empty-memo}
-use Rattle.solver.specs.Solving.{Lent}
-
--- no sheet has more than 1,024 nodes or children
-module _ (s : List ℕ) (opens : Opens s) where
-  pub few-nodes : rowCount s 0 ≤ 1024
-  unfolding rowLimit
-  few-nodes = rows-most s (opens-layout s opens) 0 (lit< tt)
-
-  pub few-children : rowCount s 1 ≤ 1024
-  unfolding rowLimit
-  few-children = rows-most s (opens-layout s opens) 1 (lit< tt)
+use Rattle.entering.specs.Solving.{Lent}
 
 -- n rows that are all zero, where the sheet has no more
 pub lent : (method : Method) (s : List ℕ) (n : ℕ) → rowCount s 0 ≤ n → rowCount s 1 ≤ n
@@ -41,16 +29,6 @@ lent method s n nodes children =
       child-room = simp length-replicate (omega arith);
       memo = empty-memo method s (ofBits binary64 0) n nodes;
     }
-
--- limit 0 means 32
-module _ (limit : ℕ) where
-  pub default-depth : limit ≡ 0 → 32 ≡ depthOf limit
-  unfolding depthOf
-  default-depth h = rw h
-
-  pub own-depth : (limit ≡ 0 → ⊥) → limit ≡ depthOf limit
-  unfolding depthOf
-  own-depth h = rw (ne-eqb limit 0 h)
 
 module _ (method : Method) (s : List ℕ) (start limit : ℕ) where
   pub call-above : 64 < limit → solution method s start limit ≡ refused (limitAbove limit)

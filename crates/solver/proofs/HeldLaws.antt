@@ -1,16 +1,16 @@
--- What an answer of the code holds: a refusal, or the solution of a row of the memo; and a terminal's answer as it is kept in its row.
-use mathlib.Core.Path.{_≡_, refl, sym, ap, _∙_}
-use mathlib.Core.Bool.{false, cond}
-use mathlib.Core.List.{List, [], _∷_, _++_, map, reverse, reverse-append}
+-- What an answer of the code holds: a refusal, or the solution of a row of the memo.
+use mathlib.Core.Path.{_≡_, _∙_}
+use mathlib.Core.Bool.{cond}
+use mathlib.Core.List.{List, [], _∷_, map, reverse, reverse-append}
 use mathlib.Core.Option.{none, some}
-use Prim.Native.Nat.{ℕ, zero, suc, _+_, _-_, _<_, _≤_}
+use Prim.Native.Nat.{ℕ, zero, suc, _-_, _<_, _≤_}
 use native.Mathlib.Omega.{arith}
 use borrow.Author.Tests.{ne-eqb}
-use lib.ListN.{length, getD, take, replicate, length-map, length-append, length-replicate, length-reverse}
-use lib.Seq.{take-suc, take-at, length-take-le}
+use lib.ListN.{length, getD, take, replicate, length-map, length-reverse}
+use lib.Seq.{take-suc, length-take-le}
 use lib.Dec.{eqb}
-use lib.Ieee.{Float, binary64, ofBits}
-use Rattle.number.specs.Number.{Number, finite, fromBits, fromFields}
+use lib.Ieee.{binary64, ofBits}
+use Rattle.number.specs.Number.{fromBits, fromFields}
 use Rattle.number.specs.Meaning.{meaning}
 use Rattle.number.proofs.Bits.{meaning-ofBits}
 use Rattle.answer.specs.declared.Refusal.{Refusal}
@@ -18,20 +18,10 @@ use Rattle.answer.specs.declared.Check.{Check}
 use Rattle.answer.specs.declared.Check.the-variants.{Passed}
 use Rattle.answer.specs.Fault.{faultOf}
 use Rattle.answer.specs.Answer.{refused, done}
-use Rattle.rows.specs.Store.{rowsFrom}
-use Rattle.rows.proofs.StoreLaws.{length-rows}
-use Rattle.game.specs.Game.{terminalOf}
-use Rattle.sheet.specs.Meaning.{payoffRow, gameOf}
-use Rattle.sheet.specs.Found.{terminalIn}
-use Rattle.sheet.specs.declared.Terminal.{Terminal as TerminalRow}
-use Rattle.memo.specs.Memo.{Entry, ending, actionCount, payoffCount, solutionOf, Sized, Rows, stored}
-use Rattle.memo.specs.declared.Visit.the-variants as Visiting
-use Rattle.memo.specs.Visits.{KeptAs}
-use Rattle.turns.proofs.Overwrite.{map-take}
+use Rattle.memo.specs.Memo.{Entry, ending, actionCount, payoffCount, solutionOf, Sized}
 use Rattle.solver.specs.declared.Ending.{Ending}
 use Rattle.solver.specs.declared.Ending.the-variants.{Open}
 use Rattle.solver.specs.Held.{endingOf, held, padded, heldFor}
-use Rattle.solver.specs.Solving.{ended}
 
 -- ---- a refusal
 pub refused-held : (f : Check) (x : Refusal) → faultOf f ≡ some x
@@ -67,40 +57,3 @@ solution-held x end actions count width sized e a c w =
     let as-many : length (reverse (take (actionCount x) (x .labels))) ≡ actionCount x = length-reverse (take (actionCount x) (x .labels)) ∙ length-take-le (actionCount x) (x .labels) (omega arith) in
     let as-wide : length (map meaning (take (payoffCount x) (x .payoffs))) ≡ payoffCount x = length-map (take (payoffCount x) (x .payoffs)) meaning ∙ length-take-le (payoffCount x) (x .payoffs) (omega arith) in
     rw (a, c, w, e, sized .padding, as-many, as-wide)
-
--- ---- a terminal
-module _ (s : List ℕ) (e row : ℕ) (t : TerminalRow) (values : List Float) (found : terminalOf (gameOf s) e ≡ some (terminalIn s t)) (few : t .count ≤ 8)
-    (filled : map meaning values ≡ rowsFrom (payoffRow s) (t .first) (t .count) ++ replicate (8 - t .count) (finite false 0)) where
-  abbrev payoffs : List Number
-  payoffs = rowsFrom (payoffRow s) (t .first) (t .count)
-
-  terminal-payoffs : map meaning (take (t .count) values) ≡ payoffs
-  terminal-payoffs = map-take meaning (t .count) values ∙ ap (take (t .count)) filled ∙ take-at payoffs (replicate (8 - t .count) (finite false 0)) (t .count) (length-rows (payoffRow s) (t .first) (t .count))
-
-  room : length values ≡ 8
-  room =
-      let n = length-rows (payoffRow s) (t .first) (t .count) in
-      let all : length (map meaning values) ≡ length payoffs + length (replicate (8 - t .count) (finite false 0)) = ap length filled ∙ length-append payoffs (replicate (8 - t .count) (finite false 0)) in
-      let rest : length (replicate (8 - t .count) (finite false 0)) ≡ 8 - t .count = length-replicate (8 - t .count) (finite false 0) in
-      let same : length (map meaning values) ≡ length values = length-map values meaning in
-      omega arith
-
-  pub terminal-kept : (m m′ : Rows) → m′ ≡ stored m row (record { head = 1 ∷ 1 ∷ e ∷ 0 ∷ t .count ∷ []; labels = replicate 64 0; payoffs = values }) → KeptAs m m′ row 1 (ended (gameOf s) e) (Visiting.Solved row)
-  unfolding solutionOf
-  terminal-kept m m′ q =
-      rw found (
-        record {
-          kept = record { head = 1 ∷ 1 ∷ e ∷ 0 ∷ t .count ∷ []; labels = replicate 64 0; payoffs = values };
-          sized = record {
-            low = omega arith;
-            few-actions = omega arith;
-            label-room = refl;
-            payoff-room = record { few = few; room = room };
-            padding = filled ∙ ap (λ r. r ++ replicate (8 - t .count) (finite false 0)) (sym terminal-payoffs);
-          };
-          high = refl;
-          solution = rw terminal-payoffs;
-          memo = q;
-        },
-        refl,
-      )

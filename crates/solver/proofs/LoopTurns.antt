@@ -42,7 +42,7 @@ use Rattle.turns.specs.declared.Sums.{Sums}
 use Rattle.turns.specs.declared.SumsTurn.{SumsTurn}
 use Rattle.turns.specs.Replies.{leadIn, Replied, ExtendableBest, decided}
 use Rattle.turns.specs.Sums.{Holds, TurnIs, weighedUp}
-use Rattle.solver.specs.Solving.{Deciding, Weighing}
+use Rattle.entering.specs.Solving.{Deciding, Weighing}
 use Rattle.solver.proofs.Walks.{Walk, in-rows, next-child, visited-as, walk-refused, walk-kept}
 use Rattle.solver.proofs.ReplyWalk as Replying
 use Rattle.solver.proofs.OutcomeWalk as Weighing-up

@@ -27,7 +27,7 @@ use Rattle.memo.specs.declared.Visit.the-variants.{Solved}
 use Rattle.turns.specs.declared.Sums.{Sums}
 use Rattle.turns.specs.declared.SumsTurn.{SumsTurn}
 use Rattle.turns.specs.Sums.{Holds, TurnIs, weighedUp}
-use Rattle.solver.specs.Solving.{Weighing}
+use Rattle.entering.specs.Solving.{Weighing}
 use Rattle.solver.proofs.ReplyWalk.{solved-target}
 
 -- the solution of a chance node with these sums

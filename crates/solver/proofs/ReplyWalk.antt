@@ -33,7 +33,7 @@ use Rattle.turns.specs.declared.Best.the-variants as B
 use Rattle.turns.specs.declared.ReplyTurn.{ReplyTurn}
 use Rattle.turns.specs.declared.ReplyTurn.the-variants.{Go, Stop}
 use Rattle.turns.specs.Replies.{replyIn, leadIn, KeptIn, turnIn, Replied, ExtendableBest, decided}
-use Rattle.solver.specs.Solving.{Deciding}
+use Rattle.entering.specs.Solving.{Deciding}
 
 -- ---- the best reply in a memo that has grown
 kept-on : (s : List ℕ) (m m′ : Rows) → Extends m m′ → (best : Best) → KeptIn s m best → KeptIn s m′ best

@@ -9,7 +9,7 @@ use Rattle.answer.specs.Answer.{Answer, refused}
 use Rattle.layout.specs.Layout.{rowCount}
 use Rattle.sheet.specs.Meaning.{gameOf, Opens}
 use Rattle.child_rows.specs.Links.{NextOf, firstChild, nextChild, Linked, Chain}
-use Rattle.child_rows.proofs.LinkLaws.{chain-starts, chain-next, chain-goes, chain-room}
+use Rattle.child_rows.proofs.LinkLaws.{chain-next, chain-goes, chain-room}
 use Rattle.backward_induction.specs.declared.Method.{Method}
 use Rattle.backward_induction.specs.Solve.{Solution, solve}
 use Rattle.memo.specs.declared.Visit.{Visit}
@@ -17,8 +17,9 @@ use Rattle.memo.specs.declared.Visit.the-variants.{Solved, Refused}
 use Rattle.memo.specs.Memo.{Rows, entry, height, PayoffRoom, Within, Memo, Extends}
 use Rattle.memo.specs.Visits.{Visits, KeptAs}
 use Rattle.memo.proofs.VisitLaws.{kept-visits}
-use Rattle.solver.specs.Solving.{NodeAt, Asks, EnteredAs, Enters}
-use Rattle.solver.specs.declared.Entered.{Entered}
+use Rattle.entering.proofs.FirstChild.{first-chain}
+use Rattle.entering.specs.Solving.{NodeAt, Asks, EnteredAs, Enters}
+use Rattle.entering.specs.declared.Entered.{Entered}
 
 -- the lists are as long as they were
 pub record AsLong (m m′ : Rows) : Type 0 where
@@ -38,18 +39,6 @@ pub record Walk (method : Method) (s links : List ℕ) (m₀ m : Rows) (row e le
   pub memo : Memo method s m
   pub extends : Extends m₀ m
   pub as-long : AsLong m₀ m
-
--- the first child row of the node in a row
-module _ {s links : List ℕ} {row e : ℕ} (linked : Linked s links) (node : NodeAt s row e) where
-  pub first-room : 2 * row < length links
-  first-room = let a = linked .node-room in let b = node .here in omega arith
-
-  module _ {i : ℕ} (to : i ≡ firstChild links row) where
-    pub first-child : NextOf s e 0 i
-    first-child = rw (to, ← node .entity) (linked .firsts row (node .here))
-
-    pub first-chain : Chain s links e i
-    first-chain = rw (to, ← node .entity) (chain-starts linked row (node .here))
 
 pub walk-starts : {method : Method} {s links : List ℕ} (m : Rows) {row e left n i : ℕ} → Asks method s links m left → 0 < left → NodeAt s row e → n ≡ rowCount s 1 → i ≡ firstChild links row
     → Walk method s links m m row e left n i 0

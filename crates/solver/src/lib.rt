@@ -1,38 +1,28 @@
 // The solve: backward induction over a sheet, with each node's answer kept so that a shared node is solved once.
 ghost use mathlib.Core.Path.{_≡_};
-ghost use mathlib.Core.Bool.{false};
-ghost use mathlib.Core.List.{_++_, map, reverse};
+ghost use mathlib.Core.List.{reverse};
 ghost use mathlib.Core.Option.{some};
-ghost use Prim.Native.Nat.{ℕ, _+_, _-_, _≤_, _<_, max};
-ghost use lib.ListN.{take, replicate};
-ghost use Rattle.number.specs.Number.{finite};
-ghost use Rattle.number.specs.Meaning.{meaning};
+ghost use Prim.Native.Nat.{_+_, _≤_, max};
+ghost use lib.ListN.{take};
 ghost use Rattle.answer.specs.declared.Refusal.{Refusal};
 ghost use Rattle.answer.specs.Answer.{refused, done};
 ghost use Rattle.answer.specs.Fault.{faultOf};
-ghost use Rattle.rows.specs.Store.{rowsFrom};
 ghost use Rattle.layout.specs.Layout.{rowCount};
-ghost use Rattle.game.specs.Game.{kindOf};
-ghost use Rattle.game.specs.declared.Kind.the-variants as Kinds;
-ghost use Rattle.sheet.specs.Meaning.{payoffRow, gameOf, Opens};
+ghost use Rattle.sheet.specs.Meaning.{gameOf, Opens};
 ghost use Rattle.backward_induction.specs.Solve.{solve as solution-with};
 ghost use Rattle.backward_induction.specs.Call.{solution};
-ghost use Rattle.backward_induction.specs.declared.Method.{Method};
 ghost use Rattle.backward_induction.specs.declared.Method.the-variants.{ChanceWeighted, Plain};
-ghost use Rattle.memo.specs.Memo.{Rows, rows, entry, solutionOf, Sized, Within};
-ghost use Rattle.memo.specs.Visits.{Visits, KeptAs};
+ghost use Rattle.memo.specs.Memo.{rows, entry, solutionOf, Sized, Within};
+ghost use Rattle.memo.specs.Visits.{Visits};
 ghost use Rattle.solver.specs.Held.{padded, held, heldFor};
-ghost use Rattle.child_rows.specs.Links.{Linked};
 ghost use Rattle.turns.specs.declared.Best.the-variants as Bests;
-ghost use Rattle.solver.specs.Solving.{NodeAt, Asks, Lent, ended, Deciding, ToWeigh, EnteredAs, Enters};
+ghost use Rattle.entering.specs.Solving.{NodeAt, Asks, Lent, Deciding, ToWeigh};
 use answer::Check;
 use backward_induction::Method;
 use edges::ActionStep;
 use edges::ChanceStep;
-use game::Kind;
+use entering::Entered;
 use memo::Visit;
-use rows::Found;
-use sheet::TerminalFound;
 use turns::Best;
 use turns::ReplyTurn;
 
@@ -52,108 +42,6 @@ pub struct Solved {
     pub payoffs: [f64; 8],
 }
 
-// A node that is entered: done with, or its replies or outcomes are to be solved.
-pub enum Entered {
-    Done(Visit),
-    Decision(usize, u32),
-    Chance(usize),
-}
-
-// The payoffs of the payoff rows from `first` on.
-fn payoffs_from(sheet: &[u8], first: usize, count: usize) -> [f64; 8]
-    requires { ⌜ Opens (now sheet) × (first + count ≤ rowCount (now sheet) 6) × (count ≤ 8) ⌝ }
-    ensures { λ r. ⌜ map meaning r ≡ rowsFrom (payoffRow (now (sheet .entry))) first count ++ replicate (8 - count) (finite false 0) ⌝ }
-{
-    let mut out = [0.0f64; 8];
-    let mut j = 0;
-    while j < count {
-        out[j] = sheet::payoff(sheet, first + j).value();
-        j += 1;
-    }
-    out
-}
-
-// A terminal node: 13, or its payoffs.
-fn solve_terminal(
-    sheet: &[u8],
-    heads: &mut [[u32; 5]],
-    labels: &mut [[u32; 64]],
-    payoffs: &mut [[f64; 8]],
-    entity: u32,
-    row: usize,
-) -> Visit
-    requires { ⌜ Opens (now sheet) × Within (rows (now heads) (now labels) (now payoffs)) row ⌝ }
-    ensures { λ v. ⌜ KeptAs (rows (now (heads .entry)) (now (labels .entry)) (now (payoffs .entry))) (rows (now (heads .exit)) (now (labels .exit)) (now (payoffs .exit))) row 1 (ended (gameOf (now (sheet .entry))) entity) v ⌝ }
-{
-    let TerminalFound::Found(t) = sheet::find_terminal(sheet, entity) else {
-        return memo::refused(13, entity as u64);
-    };
-    let count = t.count;
-    let values = payoffs_from(sheet, t.first, count);
-    let head = [1, 1, entity, 0, count as u32];
-    memo::store(heads, labels, payoffs, row, head, [0u32; 64], values);
-    Visit::Solved(row)
-}
-
-// A decision: the faults among its edges.
-fn enter_decision(sheet: &[u8], links: &[u32], entity: u32, row: usize, player: u32) -> Entered
-    requires { ⌜ Opens (now sheet) × Linked (now sheet) (now links) × NodeAt (now sheet) row entity × (kindOf (gameOf (now sheet)) entity ≡ some (Kinds.Decision player)) ⌝ }
-    ensures { λ r. ⌜ ((method : Method) (m : Rows) (left : ℕ) → 0 < left → EnteredAs method (now (sheet .entry)) m left entity r) ⌝ }
-{
-    let from = child_rows::first_child(links, row);
-    match edges::linked_action_edges(sheet, links, entity, from) {
-        Check::Refused(r) => Entered::Done(Visit::Refused(r)),
-        Check::Passed => Entered::Decision(row, player),
-    }
-}
-
-// A chance node: 20 where the method is plain, else the faults among its outcomes.
-fn enter_chance(sheet: &[u8], links: &[u32], method: Method, entity: u32, row: usize) -> Entered
-    requires { ⌜ Opens (now sheet) × Linked (now sheet) (now links) × NodeAt (now sheet) row entity × (kindOf (gameOf (now sheet)) entity ≡ some Kinds.Chance) ⌝ }
-    ensures { λ r. ⌜ ((m : Rows) (left : ℕ) → 0 < left → EnteredAs method (now (sheet .entry)) m left entity r) ⌝ }
-{
-    if let Method::Plain = method {
-        return Entered::Done(memo::refused(20, entity as u64));
-    }
-    let from = child_rows::first_child(links, row);
-    match edges::linked_chance_outcomes(sheet, links, entity, from) {
-        Check::Refused(r) => Entered::Done(Visit::Refused(r)),
-        Check::Passed => Entered::Chance(row),
-    }
-}
-
-// Enters a node with so much depth left: 24, 11, an answer that is known, then by kind as far as no target is solved.
-fn enter(
-    sheet: &[u8],
-    links: &[u32],
-    heads: &mut [[u32; 5]],
-    labels: &mut [[u32; 64]],
-    payoffs: &mut [[f64; 8]],
-    method: Method,
-    entity: u32,
-    left: usize,
-) -> Entered
-    requires { ⌜ Asks method (now sheet) (now links) (rows (now heads) (now labels) (now payoffs)) left ⌝ }
-    ensures { λ r. ⌜ Enters method (now (sheet .entry)) (rows (now (heads .entry)) (now (labels .entry)) (now (payoffs .entry))) (rows (now (heads .exit)) (now (labels .exit)) (now (payoffs .exit))) left entity r ⌝ }
-{
-    if left == 0 {
-        return Entered::Done(memo::refused(24, entity as u64));
-    }
-    let Found::At(row) = opening::find_row(sheet, 0, entity) else {
-        return Entered::Done(memo::refused(11, entity as u64));
-    };
-    if memo::is_known(heads, row, left) {
-        return Entered::Done(Visit::Solved(row));
-    }
-    let node = sheet::node_row(sheet, row);
-    let kind = node.kind;
-    match kind {
-        Kind::Terminal => Entered::Done(solve_terminal(sheet, heads, labels, payoffs, entity, row)),
-        Kind::Decision { player } => enter_decision(sheet, links, entity, row, player),
-        Kind::Chance => enter_chance(sheet, links, method, entity, row),
-    }
-}
-
 // A node: entered, and then its replies or its outcomes are solved.
 fn solve_node(
     sheet: &[u8],
@@ -168,7 +56,7 @@ fn solve_node(
     requires { ⌜ Asks method (now sheet) (now links) (rows (now heads) (now labels) (now payoffs)) left ⌝ }
     ensures { λ v. ⌜ Visits method (now (sheet .entry)) (rows (now (heads .entry)) (now (labels .entry)) (now (payoffs .entry))) (rows (now (heads .exit)) (now (labels .exit)) (now (payoffs .exit))) left entity v ⌝ }
 {
-    let entered = enter(sheet, links, heads, labels, payoffs, method, entity, left);
+    let entered = entering::enter(sheet, links, heads, labels, payoffs, method, entity, left);
     match entered {
         Entered::Done(v) => v,
         Entered::Decision(row, player) => solve_decision(

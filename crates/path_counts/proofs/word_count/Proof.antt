@@ -1,7 +1,8 @@
 -- `word_count` answers the count in the start's row, or the refusal that ended the walk.
 use native.Mathlib.Omega.{arith}
 use borrow.Author.Needs.{needs}
-use Rattle.path_counts.proofs.MemoLaws.{few-rows, empty-memo, visited-counted, size-refused, size-counted}
+use Rattle.sheet.proofs.OpeningLaws.{few-nodes}
+use Rattle.path_counts.proofs.MemoLaws.{empty-memo, visited-counted, size-refused, size-counted}
 use Rattle.path_counts.proofs.word_count.Statement.{statement}
 use Rattle.path_counts.proofs.word_count.Tie as tie
 
@@ -18,10 +19,10 @@ enum-known-row : tie.Need-enum-known-row
 enum-known-row c = search needs
 
 mul-counts : tie.Need-mul-counts
-mul-counts c = omega (arith, visited-counted (c .before .before .before .before .count-paths .ensures) _ (c .before .row .given .1) .own .row, few-rows _ (c .before .before .before .before .before .before .before .pre .0))
+mul-counts c = omega (arith, visited-counted (c .before .before .before .before .count-paths .ensures) _ (c .before .row .given .1) .own .row, few-nodes _ (c .before .before .before .before .before .before .before .pre .0))
 
 array-copy-out-counts : tie.Need-array-copy-out-counts
-array-copy-out-counts c = omega (arith, visited-counted (c .before .before .before .before .count-paths .ensures) _ (c .before .row .given .1) .own .row, few-rows _ (c .before .before .before .before .before .before .before .pre .0))
+array-copy-out-counts c = omega (arith, visited-counted (c .before .before .before .before .count-paths .ensures) _ (c .before .row .given .1) .own .row, few-nodes _ (c .before .before .before .before .before .before .before .pre .0))
 
 array-read-t13 : tie.Need-array-read-t13
 array-read-t13 c = search needs

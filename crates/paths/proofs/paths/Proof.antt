@@ -2,7 +2,8 @@
 use native.Mathlib.Omega.{arith}
 use borrow.Author.Needs.{needs}
 use Rattle.sheet.proofs.OpeningLaws.{passed-opens, refused-opening}
-use Rattle.paths.proofs.CallLaws.{limit-first, opening-next, then-listed, depth-zero, depth-given}
+use Rattle.backward_induction.proofs.CallLaws.{default-depth, own-depth}
+use Rattle.paths.proofs.CallLaws.{limit-first, opening-next, then-listed}
 use Rattle.paths.proofs.paths.Statement.{statement}
 use Rattle.paths.proofs.paths.Tie as tie
 
@@ -33,7 +34,7 @@ same-length c = search needs
 returns-3 : tie.Need-returns-3
 returns-3 c =
     then-listed _ _ _ _ (c .before .before .before .before .before .before .before .before .if1 .left) (passed-opens _ _ (c .before .before .before .before .before .before .before .open .ensures) (c .before .before .before .before .before .enum-told .given .1)) _
-    (depth-zero _ (c .before .before .before .before .if2 .taken)) (c .before .before .list-paths .ensures)
+    (default-depth _ (c .before .before .before .before .if2 .taken)) (c .before .before .list-paths .ensures)
 
 list-paths-requires-2 : tie.Need-list-paths-requires-2
 list-paths-requires-2 c κs = (passed-opens _ _ (c .before .before .before .before .open .ensures) (c .before .before .enum-told .given .1), c .before .before .before .before .before .if1 .left)
@@ -44,7 +45,7 @@ same-length-2 c = search needs
 returns-4 : tie.Need-returns-4
 returns-4 c =
     then-listed _ _ _ _ (c .before .before .before .before .before .before .before .before .if1 .left) (passed-opens _ _ (c .before .before .before .before .before .before .before .open .ensures) (c .before .before .before .before .before .enum-told .given .1)) _
-    (depth-given _ (c .before .before .before .before .if2 .left)) (c .before .before .list-paths2 .ensures)
+    (own-depth _ (c .before .before .before .before .if2 .left)) (c .before .before .list-paths2 .ensures)
 
 pub paths-spec : {M : Type 1} → statement M
 paths-spec =

@@ -8,8 +8,9 @@ use Prim.Native.Nat.{ℕ, _+_, _-_, _<_}
 use lib.Dec.{lit<}
 use Rattle.sheet.proofs.OpeningLaws.{opens-layout}
 use Rattle.memo.specs.Memo.{rows}
-use Rattle.solver.specs.Solving.{Deciding, Weighing}
-use Rattle.solver.proofs.Walks.{Walk, first-room, first-child, walk-starts, walk-asks, in-rows, next-room, next-later, walk-skips, walk-goes, visits-after, visited-as, answer-row, entered-as}
+use Rattle.entering.specs.Solving.{Deciding, Weighing}
+use Rattle.solver.proofs.Walks.{Walk, walk-starts, walk-asks, in-rows, next-room, next-later, walk-skips, walk-goes, visits-after, visited-as, answer-row, entered-as}
+use Rattle.entering.proofs.FirstChild.{first-room, first-child}
 use Rattle.solver.proofs.ReplyWalk.{replies-from}
 use Rattle.solver.proofs.OutcomeWalk.{outcomes-from}
 use Rattle.solver.proofs.LoopTurns.{decision-room, decision-ends, no-edge, reply-refused, reply-stops, reply-goes, chance-ends, no-outcome, outcome-refused, outcome-stops, outcome-goes}
@@ -30,7 +31,7 @@ use Rattle.edges.proofs.action_edge.Reads as action-edge-reads
 use Rattle.edges.proofs.chance_outcome.Reads as chance-outcome-reads
 use Rattle.layout.proofs.row_count.Reads as row-count-reads
 use Rattle.memo.proofs.deeper.Reads as deeper-reads
-use Rattle.solver.proofs.enter.Reads as enter-reads
+use Rattle.entering.proofs.enter.Reads as enter-reads
 use Rattle.turns.proofs.no_sums.Reads as no-sums-reads
 use Rattle.turns.proofs.outcome_to.Reads as outcome-to-reads
 use Rattle.turns.proofs.reply_to.Reads as reply-to-reads

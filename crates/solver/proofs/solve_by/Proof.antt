@@ -10,7 +10,8 @@ use Rattle.sheet.proofs.OpeningLaws.{passed-opens, refused-opening}
 use Rattle.backward_induction.specs.Solve.{solve}
 use Rattle.backward_induction.specs.Call.{depthOf}
 use Rattle.solver.specs.Held.{heldFor}
-use Rattle.solver.proofs.CallLaws.{default-depth, own-depth, call-above, call-unopened, call-opened}
+use Rattle.backward_induction.proofs.CallLaws.{default-depth, own-depth}
+use Rattle.solver.proofs.CallLaws.{call-above, call-unopened, call-opened}
 use Rattle.solver.proofs.solve_by.Statement.{statement}
 use Rattle.solver.proofs.solve_by.Tie as tie
 

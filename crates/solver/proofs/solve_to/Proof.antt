@@ -1,6 +1,6 @@
 -- `solve_to` lends as many rows as the sheet needs.
 use borrow.Author.Needs.{needs}
-use Rattle.solver.proofs.CallLaws.{few-nodes, few-children}
+use Rattle.sheet.proofs.OpeningLaws.{few-nodes, few-children}
 use Rattle.solver.proofs.solve_to.Statement.{statement}
 use Rattle.solver.proofs.solve_to.Tie as tie
 

@@ -4,9 +4,9 @@ use native.Mathlib.Omega.{arith}
 use borrow.Author.Needs.{needs}
 use Rattle.sheet.specs.Found.{terminalFound, InSheet}
 use Rattle.memo.specs.Memo.{rows}
-use Rattle.solver.proofs.HeldLaws.{terminal-kept}
-use Rattle.solver.proofs.solve_terminal.Statement.{statement}
-use Rattle.solver.proofs.solve_terminal.Tie as tie
+use Rattle.entering.proofs.TerminalKept.{terminal-kept}
+use Rattle.entering.proofs.solve_terminal.Statement.{statement}
+use Rattle.entering.proofs.solve_terminal.Tie as tie
 
 find-terminal-requires : tie.Need-find-terminal-requires
 find-terminal-requires c κs = search needs

@@ -2,10 +2,10 @@
 use mathlib.Core.Path.{sym, ap, _∙_}
 use borrow.Author.Needs.{needs}
 use Rattle.answer.specs.Fault.{faultOf}
-use Rattle.solver.proofs.Walks.{first-room, first-child, first-chain}
-use Rattle.solver.proofs.Entering.{decision-refused, decision-starts}
-use Rattle.solver.proofs.enter_decision.Statement.{statement}
-use Rattle.solver.proofs.enter_decision.Tie as tie
+use Rattle.entering.proofs.FirstChild.{first-room, first-child, first-chain}
+use Rattle.entering.proofs.Entering.{decision-refused, decision-starts}
+use Rattle.entering.proofs.enter_decision.Statement.{statement}
+use Rattle.entering.proofs.enter_decision.Tie as tie
 
 first-child-requires : tie.Need-first-child-requires
 first-child-requires c κs = let p = c .before .before .pre in first-room (p .1) (p .2)

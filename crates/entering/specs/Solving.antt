@@ -24,8 +24,8 @@ use Rattle.turns.specs.declared.Best.the-variants as B
 use Rattle.turns.specs.declared.Sums.{Sums}
 use Rattle.turns.specs.Replies.{leadIn, KeptIn}
 use Rattle.turns.specs.Sums.{Holds}
-use Rattle.solver.specs.declared.Entered.{Entered}
-use Rattle.solver.specs.declared.Entered.the-variants as E
+use Rattle.entering.specs.declared.Entered.{Entered}
+use Rattle.entering.specs.declared.Entered.the-variants as E
 
 -- the node row of e
 pub record NodeAt (s : List ℕ) (row e : ℕ) : Type 0 where

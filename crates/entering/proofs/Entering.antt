@@ -30,8 +30,8 @@ use Rattle.backward_induction.proofs.SolveLaws.{solve-zero, solve-suc, step-mis
 use Rattle.memo.specs.Memo.{Rows, entry, height, known}
 use Rattle.memo.specs.Visits.{SolvedIn}
 use Rattle.turns.specs.declared.Best.the-variants as B
-use Rattle.solver.specs.declared.Entered.the-variants as E
-use Rattle.solver.specs.Solving.{NodeAt, ended, EnteredAs}
+use Rattle.entering.specs.declared.Entered.the-variants as E
+use Rattle.entering.specs.Solving.{NodeAt, ended, EnteredAs}
 
 -- ---- the node's row
 module _ (s : List ℕ) (e : ℕ) (f : Found) (found : foundAt f ≡ findRow (width s 0) (section s 0) (rowCount s 0) e) where

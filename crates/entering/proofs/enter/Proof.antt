@@ -13,10 +13,10 @@ use Rattle.game.specs.Game.{kindOf}
 use Rattle.sheet.specs.Meaning.{gameOf}
 use Rattle.memo.specs.Memo.{rows}
 use Rattle.memo.proofs.VisitLaws.{kept-visits}
-use Rattle.solver.specs.Solving.{NodeAt, ended}
-use Rattle.solver.proofs.Entering.{node-at, node-kind, node-missing, no-depth, no-node, at-terminal, known-visited}
-use Rattle.solver.proofs.enter.Statement.{statement}
-use Rattle.solver.proofs.enter.Tie as tie
+use Rattle.entering.specs.Solving.{NodeAt, ended}
+use Rattle.entering.proofs.Entering.{node-at, node-kind, node-missing, no-depth, no-node, at-terminal, known-visited}
+use Rattle.entering.proofs.enter.Statement.{statement}
+use Rattle.entering.proofs.enter.Tie as tie
 
 -- the node's row, once it is found, and its kind, once it is read
 here : (c : tie.After-row) → NodeAt (c .before .before .before .before .before .before .args .sheet .now) (c .row .given .0 .0) (c .before .before .before .before .before .before .args .entity)

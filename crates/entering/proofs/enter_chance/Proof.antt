@@ -2,10 +2,10 @@
 use mathlib.Core.Path.{sym, ap, _∙_}
 use borrow.Author.Needs.{needs}
 use Rattle.answer.specs.Fault.{faultOf}
-use Rattle.solver.proofs.Walks.{first-room, first-child, first-chain}
-use Rattle.solver.proofs.Entering.{chance-plain, chance-refused, chance-starts}
-use Rattle.solver.proofs.enter_chance.Statement.{statement}
-use Rattle.solver.proofs.enter_chance.Tie as tie
+use Rattle.entering.proofs.FirstChild.{first-room, first-child, first-chain}
+use Rattle.entering.proofs.Entering.{chance-plain, chance-refused, chance-starts}
+use Rattle.entering.proofs.enter_chance.Statement.{statement}
+use Rattle.entering.proofs.enter_chance.Tie as tie
 
 enum-told : tie.Need-enum-told
 enum-told c = search needs

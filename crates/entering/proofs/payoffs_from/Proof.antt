@@ -16,8 +16,8 @@ use Rattle.sheet.specs.Meaning.{payoffRow}
 use Rattle.sheet.proofs.OpeningLaws.{opens-layout}
 use Rattle.memo.proofs.MemoLaws.{no-payoffs}
 use Rattle.turns.proofs.Overwrite.{over, over-next, over-end, drop-replicate}
-use Rattle.solver.proofs.payoffs_from.Statement.{statement}
-use Rattle.solver.proofs.payoffs_from.Tie as tie
+use Rattle.entering.proofs.payoffs_from.Statement.{statement}
+use Rattle.entering.proofs.payoffs_from.Tie as tie
 
 abbrev Inv-loop : tie.InvT-loop
 Inv-loop sheet first count out₀ j₀ out j = (j ≤ count) × (length out ≡ 8) × (map meaning out ≡ over (rowsFrom (payoffRow sheet) first count) (map meaning out₀) j)
