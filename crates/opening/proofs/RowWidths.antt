@@ -44,6 +44,22 @@ entity-width s =
     (λ e. omega arith)
     (λ e. absurd (false≢true e))
 
+-- no row is wide
+pub width-most : (s : List ℕ) (k : ℕ) → k < 10 → width s k ≤ 32
+unfolding width
+width-most s =
+    each-section (λ k. width s k ≤ 32)
+    (omega arith)
+    (omega arith)
+    (omega arith)
+    (omega arith)
+    (omega arith)
+    (omega arith)
+    (omega arith)
+    (omega arith)
+    (omega arith)
+    (omega arith)
+
 -- ---- where a row is at hand
 module _ {s : List ℕ} {k i : ℕ} (r : RowOf s k i) where
   pub widths : RowWidths s

@@ -308,8 +308,5 @@ pub fn find_row(sheet: &[u8], k: usize, entity: u32) -> rows::Found
     requires { ⌜ (sheetFault (now sheet) ≡ none) × (hasEntity k ≡ true) ⌝ }
     ensures { λ r. ⌜ foundAt r ≡ findRow (width (now (sheet .entry)) k) (section (now (sheet .entry)) k) (rowCount (now (sheet .entry)) k) entity ⌝ }
 {
-    let w = width_of(sheet, k);
-    let rows = section_of(sheet, k);
-    let n = rows::count(rows, w);
-    rows::find_distinct(rows, w, n, entity)
+    rows::find_distinct(section_of(sheet, k), width_of(sheet, k), entity)
 }

@@ -1,10 +1,10 @@
 -- Rows of any width: a row lies within the bytes, what a search by entity has found so far, and entities that do not repeat.
-use Prim.Native.Nat.{ℕ, _+_, _*_, _≤_, _<_}
+use Prim.Native.Nat.{ℕ, _+_, _*_, _/_, _≤_, _<_}
 use mathlib.Core.Path.{_≡_, refl, sym}
 use mathlib.Core.List.{List}
 use mathlib.Core.Bool.{false, true≢false}
 use mathlib.Core.Option.{Option, none, some}
-use native.Mathlib.Nat.{mul-le-mul-left, mul-div-le, mul-suc, le-antisymm}
+use native.Mathlib.Nat.{le-div-iff-mul-le, mul-le-mul-left, mul-div-le, mul-suc, le-antisymm}
 use native.Mathlib.Omega.{arith}
 use borrow.Author.Tests.{ne-eqb, eq-eqb, eqb-true, eqb-false}
 use borrow.Author.Count.{below-more}
@@ -18,6 +18,14 @@ use Rattle.rows.specs.Rows.{rowsIn, entityAt, findRow, isSome, repeated,
 pub row-fits : (w : ℕ) (rows : List ℕ) (i : ℕ) → i < rowsIn w rows → w * i + w ≤ length rows
 unfolding rowsIn
 row-fits w rows i h = omega (arith, mul-le-mul-left w h, mul-div-le (length rows) w, mul-suc w i)
+
+-- and a row that ends within the bytes is one of them
+pub row-here : (w : ℕ) (rows : List ℕ) (i : ℕ) → 4 ≤ w → (i + 1) * w ≤ length rows → i < rowsIn w rows
+unfolding rowsIn
+row-here w rows i l h =
+    let wide : 0 < w = omega arith in
+    let last : i + 1 ≤ length rows / w = le-div-iff-mul-le wide .1 h in
+    omega (arith, last)
 
 -- the next turn of a search, its end at a row, and its end without one
 module _ (w : ℕ) (rows : List ℕ) (e i : ℕ) (sofar : findRow w rows i e ≡ none) where

@@ -1,5 +1,6 @@
 // Rows of any width in a slice of bytes.
 ghost use mathlib.Core.Path.{_≡_};
+ghost use mathlib.Core.Bool.{true};
 ghost use Prim.Native.Nat.{_+_, _*_, _≤_, _<_};
 ghost use Rattle.rows.specs.Rows.{rowsIn, u32Field, u64Field, findRow, foundAt, repeated, Within, Distinct};
 
@@ -60,25 +61,28 @@ fn distance(a: u32, b: u32) -> u32 {
     a - b
 }
 
-// A row to look at first: the entity's, where the rows are spaced as rows 0 and 1 are.
-fn evenly_spaced(rows: &[u8], w: usize, n: usize, entity: u32) -> usize
-    requires { ⌜ (0 < n) × (n ≤ rowsIn w (now rows)) × (4 ≤ w) ⌝ }
-    ensures { λ r. ⌜ r < n ⌝ }
+// Whether there is a row i; it takes no division.
+fn has_row(rows: &[u8], w: usize, i: u32) -> bool
+    requires { ⌜ (4 ≤ w) × (w ≤ 32) ⌝ }
+    ensures { λ r. ⌜ (r ≡ true → i < rowsIn w (now (rows .entry))) ⌝ }
 {
-    if n == 1 {
+    (i as usize + 1) * w <= rows.len()
+}
+
+// A row to look at first: the entity's, where the rows are spaced as rows 0 and 1 are.
+fn evenly_spaced(rows: &[u8], w: usize, entity: u32) -> u32
+    requires { ⌜ (4 ≤ w) × (w ≤ 32) ⌝ }
+{
+    if !has_row(rows, w, 1) {
         return 0;
     }
     let first = field(rows, w, 0, 0);
     let spacing = distance(first, field(rows, w, 1, 0));
-    if spacing == 0 {
-        return 0;
-    }
     let gap = distance(first, entity);
-    let i = if spacing == 1 { gap } else { gap / spacing } as usize;
-    if i < n {
-        return i;
+    if spacing <= 1 {
+        return gap;
     }
-    0
+    gap / spacing
 }
 
 // Row mid where it is not past the entity, and else row i.
@@ -116,22 +120,32 @@ fn halved(rows: &[u8], w: usize, n: usize, entity: u32) -> usize
 }
 
 // The one of n rows that names the entity, where no two name the same. Rows in no order are searched one by one.
-pub fn find_distinct(rows: &[u8], w: usize, n: usize, entity: u32) -> Found
+fn find_halving(rows: &[u8], w: usize, n: usize, entity: u32) -> Found
     requires { ⌜ (n ≤ rowsIn w (now rows)) × (4 ≤ w) × Distinct w (now rows) n ⌝ }
     ensures { λ r. ⌜ foundAt r ≡ findRow w (now (rows .entry)) n entity ⌝ }
 {
     if n == 0 {
         return Found::Nothing;
     }
-    let i = evenly_spaced(rows, w, n, entity);
-    if field(rows, w, i, 0) == entity {
-        return Found::At(i);
-    }
     let j = halved(rows, w, n, entity);
     if field(rows, w, j, 0) == entity {
         return Found::At(j);
     }
     find_row(rows, w, n, entity)
+}
+
+// The row that names the entity, where no two name the same.
+pub fn find_distinct(rows: &[u8], w: usize, entity: u32) -> Found
+    requires { ⌜ (4 ≤ w) × (w ≤ 32) × Distinct w (now rows) (rowsIn w (now rows)) ⌝ }
+    ensures { λ r. ⌜ foundAt r ≡ findRow w (now (rows .entry)) (rowsIn w (now (rows .entry))) entity ⌝ }
+{
+    let i = evenly_spaced(rows, w, entity);
+    if has_row(rows, w, i) {
+        if field(rows, w, i as usize, 0) == entity {
+            return Found::At(i as usize);
+        }
+    }
+    find_halving(rows, w, count(rows, w), entity)
 }
 
 // Whether an earlier row names row i's entity. An entity outside the bounds of the earlier ones is new, and no row is searched.

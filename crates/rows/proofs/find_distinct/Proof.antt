@@ -1,47 +1,48 @@
--- `find_distinct` answers the row that names the entity: a guess that names it is that row, since no other does, and else the search tells.
+-- `find_distinct` answers the row that names the entity: a guess that names it is that row, since no other does.
 use mathlib.Core.Path.{sym, _∙_}
+use native.Mathlib.Omega.{arith}
 use borrow.Author.Needs.{needs}
-use Rattle.rows.proofs.RowLaws.{find-zero, find-one}
+use Rattle.rows.proofs.RowLaws.{find-one}
 use Rattle.rows.proofs.find_distinct.Statement.{statement}
 use Rattle.rows.proofs.find_distinct.Tie as tie
-
-returns : tie.Need-returns
-returns c = rw (c .if1 .taken) (sym (find-zero _ _ _))
 
 evenly-spaced-requires : tie.Need-evenly-spaced-requires
 evenly-spaced-requires c κs = search needs
 
+has-row-requires : tie.Need-has-row-requires
+has-row-requires c κs = search needs
+
+cast-field : tie.Need-cast-field
+cast-field c = search needs
+
 field-requires : tie.Need-field-requires
-field-requires c κs = search needs
+field-requires c κs = (c .before .has-row .ensures (c .if1 .taken), c .before .before .before .before .pre .0)
+
+cast-t9 : tie.Need-cast-t9
+cast-t9 c = search needs
+
+returns : tie.Need-returns
+returns c = find-one _ _ _ (c .before .before .before .before .before .before .pre .2) _ _ (c .before .before .before .has-row .ensures (c .before .before .if1 .taken)) (sym (c .before .field .ensures) ∙ c .if2 .taken)
+
+count-requires : tie.Need-count-requires
+count-requires c κs = search needs
+
+find-halving-requires : tie.Need-find-halving-requires
+find-halving-requires c κs = rw (c .count .ensures) (omega arith, c .before .before .before .before .before .pre .0, c .before .before .before .before .before .pre .2)
 
 returns-2 : tie.Need-returns-2
-returns-2 c = find-one _ _ _ (c .before .before .before .before .before .pre .2) _ _ (c .before .before .evenly-spaced .ensures) (sym (c .before .field .ensures) ∙ c .if2 .taken)
-
-halved-requires : tie.Need-halved-requires
-halved-requires c κs = search needs
-
-field-requires-2 : tie.Need-field-requires-2
-field-requires-2 c κs = search needs
-
-returns-3 : tie.Need-returns-3
-returns-3 c = find-one _ _ _ (c .before .before .before .before .before .before .before .before .pre .2) _ _ (c .before .before .halved .ensures) (sym (c .before .field2 .ensures) ∙ c .if3 .taken)
-
-find-row-requires : tie.Need-find-row-requires
-find-row-requires c κs = search needs
-
-returns-4 : tie.Need-returns-4
-returns-4 c = search needs
+returns-2 c = rw (← c .before .count .ensures) (c .find-halving .ensures)
 
 pub find-distinct-spec : {M : Type 1} → statement M
 find-distinct-spec =
     tie.close
     (tie.spec
-    returns
     evenly-spaced-requires
+    has-row-requires
+    cast-field
     field-requires
-    returns-2
-    halved-requires
-    field-requires-2
-    returns-3
-    find-row-requires
-    returns-4)
+    cast-t9
+    returns
+    count-requires
+    find-halving-requires
+    returns-2)
