@@ -2,7 +2,8 @@
 //!
 //! Usage: speed FOLDER run|quick          every table; status 1 if a goal is missed
 //!        speed stack CASE FRAMES         one call below so many stack frames (see stack.rs)
-//!        speed spin SHEET CALL COUNT     the library alone, for a profiler; SHEET is a file, `tree N` or `chain N`
+//!        speed spin SHEET CALL COUNT     the library alone, for a profiler; SHEET is a file, or `tree N`,
+//!                                        `chance N` (every second level), `shuffled N` (rows in no order) or `chain N`
 //!
 //! Ours is timed with the sheet's opening, the Rust's without the building of its stores. Before a call is timed, its
 //! answer is compared with the reference's and with the Rust's. The slowest sheets are kept in FOLDER.
@@ -43,7 +44,7 @@ mod sheet;
 
 use answer::Call;
 use bench::{Bench, Done};
-use sheets::Kinds;
+use sheets::{Kinds, Order};
 use std::fs;
 use std::path::Path;
 use std::process::ExitCode;
@@ -91,6 +92,11 @@ fn spin(name: &str, kind: &str, count: u64) -> Done<()> {
     let bytes = match name.split_once(' ') {
         _ if Path::new(name).exists() => fs::read(name)?,
         Some(("tree", levels)) => sheets::full_tree(levels.parse()?, 2, Kinds::Decisions).encode(),
+        Some(("chance", levels)) => sheets::full_tree(levels.parse()?, 2, Kinds::InTurn).encode(),
+        Some(("shuffled", levels)) => {
+            let tree = sheets::full_tree(levels.parse()?, 2, Kinds::Decisions);
+            sheets::arranged(tree, Order::Shuffled).encode()
+        }
         Some(("chain", levels)) => sheets::chain(levels.parse()?, Kinds::Decisions).encode(),
         _ => return Err(format!("no sheet {name}").into()),
     };
