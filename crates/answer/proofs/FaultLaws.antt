@@ -1,5 +1,5 @@
 -- Laws of `▹`, `given` and `first`: what no fault says of each part, and what the first fault is from one place to the next.
-use Prim.Native.Nat.{ℕ, zero, suc, _+_, _<_}
+use Prim.Native.Nat.{ℕ, zero, suc, _+_, _≤_, _<_}
 use mathlib.Core.Path.{_≡_, refl, sym, _∙_}
 use mathlib.Core.Bool.{Bool, true, false}
 use mathlib.Core.Logic.{⊎-elim}
@@ -101,3 +101,12 @@ module _ {A : Type 0} (f : ℕ → Option A) where
       go : (o : Option A) → first n f ≡ o → (first n f ≡ some a → P) → P
       go none q before = next n (omega arith) q (sym (first-suc n q) ∙ p)
       go (some b) q before = before (q ∙ sym (first-kept n b q) ∙ p)
+
+  pub first-stays : (m n : ℕ) (a : A) → m ≤ n → first m f ≡ some a → first n f ≡ some a
+  first-stays m n a l p = first-found m a p (λ i h q. first-stop n i a (omega arith) q)
+
+-- what agrees at each place has one first
+pub first-agrees : {A : Type 0} (f g : ℕ → Option A) (n : ℕ) → ((i : ℕ) → i < n → f i ≡ g i) → first n f ≡ first n g
+unfolding first
+first-agrees f g zero h = refl
+first-agrees f g (suc n) h = rw (first-agrees f g n (λ i l. h i (omega arith)), h n (omega arith))

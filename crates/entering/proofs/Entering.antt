@@ -8,7 +8,6 @@ use native.Mathlib.Omega.{arith}
 use borrow.Author.Tests.{ltb-true, leb-true}
 use lib.Dec.{ltb, leb}
 use Rattle.answer.specs.declared.Refusal.{Refusal}
-use Rattle.answer.specs.declared.Check.the-variants as C
 use Rattle.answer.specs.Refusals.{depthSpent, missingNode, unsupportedChanceNode}
 use Rattle.answer.specs.Answer.{Answer, refused, done, _>>=_, faultIn}
 use Rattle.rows.specs.Rows.{findRow, foundAt}
@@ -25,13 +24,12 @@ use Rattle.sheet.specs.Meaning.{nodeRow, gameOf}
 use Rattle.sheet.proofs.ChildWalk.{actions-walk, chances-walk}
 use Rattle.backward_induction.specs.declared.Method.{Method}
 use Rattle.backward_induction.specs.declared.Method.the-variants as Methods
-use Rattle.backward_induction.specs.Solve.{taken, inRange, atKind, step, solve}
+use Rattle.backward_induction.specs.Solve.{Solver, taken, inRange, atKind, step, solve}
 use Rattle.backward_induction.proofs.SolveLaws.{solve-zero, solve-suc, step-missing, step-action-fault, step-decision, step-plain, step-chance-fault, step-chance, bestOf-from, sumsOf-from}
 use Rattle.memo.specs.Memo.{Rows, entry, height, known}
 use Rattle.memo.specs.Visits.{SolvedIn}
-use Rattle.turns.specs.declared.Best.the-variants as B
 use Rattle.entering.specs.declared.Entered.the-variants as E
-use Rattle.entering.specs.Solving.{NodeAt, ended, EnteredAs}
+use Rattle.entering.specs.Solving.{NodeAt, EnteredAs}
 
 -- ---- the node's row
 module _ (s : List ℕ) (e : ℕ) (f : Found) (found : foundAt f ≡ findRow (width s 0) (section s 0) (rowCount s 0) e) where
@@ -58,9 +56,9 @@ module _ (method : Method) (s : List ℕ) (e : ℕ) where
   pub no-node : (left : ℕ) → 0 < left → kindOf (gameOf s) e ≡ none → solve method (gameOf s) left e ≡ refused (missingNode e)
   no-node left h k = solve-left left h ∙ step-missing method (gameOf s) _ e k
 
-  pub at-terminal : kindOf (gameOf s) e ≡ some Kinds.Terminal → (left : ℕ) → 1 ≤ left → solve method (gameOf s) left e ≡ ended (gameOf s) e
+  pub at-terminal : kindOf (gameOf s) e ≡ some Kinds.Terminal → (f : Solver) (left : ℕ) → 1 ≤ left → solve method (gameOf s) left e ≡ atKind method (gameOf s) f e Kinds.Terminal
   unfolding step atKind
-  at-terminal k left h = solve-left left h ∙ rw k
+  at-terminal k f left h = solve-left left h ∙ rw k
 
 -- an answer that is known
 both-true : (a b : Bool) → (a && b) ≡ true → (a ≡ true) × (b ≡ true)
@@ -73,11 +71,11 @@ known-visited m {left} {row = row} n h =
     record { filled = record { row = n .here; solved = ltb-true 0 (height (entry m row)) some-height }; entity = n .entity; near = leb-true (height (entry m row)) left near }
 
 -- ---- faults
-fault-refused : {A : Type 0} (a : Answer A) (r : Refusal) → some r ≡ faultIn a → a ≡ refused r
+pub fault-refused : {A : Type 0} (a : Answer A) (r : Refusal) → some r ≡ faultIn a → a ≡ refused r
 fault-refused (refused x) r h = cc
 fault-refused (done x) r h = let z : _≡_ {A = ℕ} 0 1 = cc in absurd (omega arith)
 
-no-fault : {A P : Type 0} (a : Answer A) → none ≡ faultIn a → ((x : A) → a ≡ done x → P) → P
+pub no-fault : {A P : Type 0} (a : Answer A) → none ≡ faultIn a → ((x : A) → a ≡ done x → P) → P
 no-fault (refused x) h next = let z : _≡_ {A = ℕ} 0 1 = cc in absurd (omega arith)
 no-fault (done x) h next = next x refl
 

@@ -2,20 +2,19 @@
 use Prim.Native.Nat.{ℕ, suc, _*_, _<_, _≤_}
 use mathlib.Core.Path.{_≡_}
 use mathlib.Core.List.{List, []}
-use mathlib.Core.Option.{Option, none, some}
+use mathlib.Core.Option.{Option, none}
 use lib.ListN.{length}
 use Rattle.number.specs.Number.{Number}
-use Rattle.answer.specs.Answer.{Answer, done, _>>=_, orRefuse}
-use Rattle.answer.specs.Refusals.{missingTerminalUtility}
+use Rattle.answer.specs.Answer.{done, _>>=_}
 use Rattle.layout.specs.Layout.{rowCount, field}
 use Rattle.graph_relations.specs.RelationRows.{childRow}
 use Rattle.game.specs.declared.ActionEdge.{ActionEdge}
-use Rattle.game.specs.Game.{Game, Chance, terminalOf}
+use Rattle.game.specs.Game.{Chance}
 use Rattle.game.specs.Edges.{actionEdgeIn, chanceOutcomeIn, collectFrom}
 use Rattle.sheet.specs.Meaning.{gameOf, Opens}
 use Rattle.child_rows.specs.Links.{Linked}
 use Rattle.backward_induction.specs.declared.Method.{Method}
-use Rattle.backward_induction.specs.Solve.{Solution, taken, inRange, solve}
+use Rattle.backward_induction.specs.Solve.{taken, inRange, solve}
 use Rattle.backward_induction.specs.Turns.{bestFrom, sumsFrom}
 use Rattle.memo.specs.Memo.{Rows, Memo, Extends}
 use Rattle.memo.specs.Visits.{Visited}
@@ -45,17 +44,13 @@ pub record Asks (method : Method) (s links : List ℕ) (m : Rows) (left : ℕ) :
   pub low : left ≤ 64
   pub memo : Memo method s m
 
--- the answer of a terminal node
-abbrev pub ended : Game → ℕ → Answer Solution
-ended g e = orRefuse (terminalOf g e) (missingTerminalUtility e) >>= λ t. done (record { terminal = some e; actions = []; payoffs = t .payoffs })
-
 -- A decision of the player p at e, of whose child rows those before i are dealt with: with any depth from `deepest` on, its answer is what the edges
 -- of the rows from i on make of the best reply so far.
 pub record Deciding (method : Method) (s : List ℕ) (m : Rows) (e p i deepest : ℕ) (best : Best) : Type 0 where
   pub kept : KeptIn s m best
   pub edges : List ActionEdge
   pub left : collectFrom (actionEdgeIn (gameOf s) e) (childRow s) (rowCount s 1) i ≡ done edges
-  pub right : (k : ℕ) → deepest ≤ k → solve method (gameOf s) (suc k) e ≡ (bestFrom (solve method (gameOf s) k) e p (leadIn m best) edges >>= λ r. done (taken r))
+  pub right : (k : ℕ) → deepest ≤ k → solve method (gameOf s) (suc k) e ≡ (bestFrom (solve method (gameOf s) k) e p (leadIn method s best) edges >>= λ r. done (taken r))
 
 -- A chance node e, of whose child rows those before i are dealt with: the same of the sums so far.
 pub record Weighing (method : Method) (s : List ℕ) (e i deepest : ℕ) (w : Sums) : Type 0 where

@@ -13,10 +13,11 @@ ghost use Rattle.game.specs.Game.{kindOf};
 ghost use Rattle.game.specs.declared.Kind.the-variants as Kinds;
 ghost use Rattle.sheet.specs.Meaning.{payoffRow, gameOf, Opens};
 ghost use Rattle.backward_induction.specs.declared.Method.{Method};
+ghost use Rattle.backward_induction.specs.Solve.{Solver, atKind};
 ghost use Rattle.memo.specs.Memo.{Rows, rows, Within};
 ghost use Rattle.memo.specs.Visits.{KeptAs};
 ghost use Rattle.child_rows.specs.Links.{Linked};
-ghost use Rattle.entering.specs.Solving.{NodeAt, Asks, ended, EnteredAs, Enters};
+ghost use Rattle.entering.specs.Solving.{NodeAt, Asks, EnteredAs, Enters};
 use answer::Check;
 use backward_induction::Method;
 use game::Kind;
@@ -48,22 +49,21 @@ fn payoffs_from(sheet: &[u8], first: usize, count: usize) -> [f64; 8]
 // A terminal node: 13, or its payoffs.
 fn solve_terminal(
     sheet: &[u8],
-    heads: &mut [[u32; 5]],
-    labels: &mut [[u32; 64]],
+    heads: &mut [[u32; 7]],
     payoffs: &mut [[f64; 8]],
     entity: u32,
     row: usize,
 ) -> Visit
-    requires { ⌜ Opens (now sheet) × Within (rows (now heads) (now labels) (now payoffs)) row ⌝ }
-    ensures { λ v. ⌜ KeptAs (rows (now (heads .entry)) (now (labels .entry)) (now (payoffs .entry))) (rows (now (heads .exit)) (now (labels .exit)) (now (payoffs .exit))) row 1 (ended (gameOf (now (sheet .entry))) entity) v ⌝ }
+    requires { ⌜ Opens (now sheet) × Within (rows (now heads) (now payoffs)) row ⌝ }
+    ensures { λ v. ⌜ ((method : Method) (f : Solver) → KeptAs method (now (sheet .entry)) (rows (now (heads .entry)) (now (payoffs .entry))) (rows (now (heads .exit)) (now (payoffs .exit))) row 1 (atKind method (gameOf (now (sheet .entry))) f entity Kinds.Terminal) v) ⌝ }
 {
     let TerminalFound::Found(t) = sheet::find_terminal(sheet, entity) else {
         return memo::refused(13, entity as u64);
     };
     let count = t.count;
     let values = payoffs_from(sheet, t.first, count);
-    let head = [1, 1, entity, 0, count as u32];
-    memo::store(heads, labels, payoffs, row, head, [0u32; 64], values);
+    let head = [1, 1, entity, 0, count as u32, 0, 0];
+    memo::store(heads, payoffs, row, head, values);
     Visit::Solved(row)
 }
 
@@ -98,15 +98,14 @@ fn enter_chance(sheet: &[u8], links: &[u32], method: Method, entity: u32, row: u
 pub fn enter(
     sheet: &[u8],
     links: &[u32],
-    heads: &mut [[u32; 5]],
-    labels: &mut [[u32; 64]],
+    heads: &mut [[u32; 7]],
     payoffs: &mut [[f64; 8]],
     method: Method,
     entity: u32,
     left: usize,
 ) -> Entered
-    requires { ⌜ Asks method (now sheet) (now links) (rows (now heads) (now labels) (now payoffs)) left ⌝ }
-    ensures { λ r. ⌜ Enters method (now (sheet .entry)) (rows (now (heads .entry)) (now (labels .entry)) (now (payoffs .entry))) (rows (now (heads .exit)) (now (labels .exit)) (now (payoffs .exit))) left entity r ⌝ }
+    requires { ⌜ Asks method (now sheet) (now links) (rows (now heads) (now payoffs)) left ⌝ }
+    ensures { λ r. ⌜ Enters method (now (sheet .entry)) (rows (now (heads .entry)) (now (payoffs .entry))) (rows (now (heads .exit)) (now (payoffs .exit))) left entity r ⌝ }
 {
     if left == 0 {
         return Entered::Done(memo::refused(24, entity as u64));
@@ -120,7 +119,7 @@ pub fn enter(
     let node = sheet::node_row(sheet, row);
     let kind = node.kind;
     match kind {
-        Kind::Terminal => Entered::Done(solve_terminal(sheet, heads, labels, payoffs, entity, row)),
+        Kind::Terminal => Entered::Done(solve_terminal(sheet, heads, payoffs, entity, row)),
         Kind::Decision { player } => enter_decision(sheet, links, entity, row, player),
         Kind::Chance => enter_chance(sheet, links, method, entity, row),
     }

@@ -10,23 +10,31 @@ use answer::refuse;
 use little_endian::u16_at;
 use little_endian::u32_at;
 
-const WIDTHS: [usize; 10] = [12, 8, 12, 20, 8, 8, 8, 16, 8, 1];
-
-const ROW_LIMITS: [usize; 10] = [1024, 1024, 1024, 1024, 1024, 1024, 4096, 1024, 256, 4096];
-
 // Bytes in a row of section k. The sheet tells, since the edition decides.
 pub fn width_of(sheet: &[u8], k: usize) -> usize
     requires { ⌜ (k < 10) × (92 ≤ length (now sheet)) ⌝ }
     ensures { λ r. ⌜ r ≡ width (now (sheet .entry)) k ⌝ }
 {
-    WIDTHS[k]
+    match k {
+        0 => 12,
+        2 => 12,
+        3 => 20,
+        7 => 16,
+        9 => 1,
+        _ => 8,
+    }
 }
 
 fn row_limit(k: usize) -> usize
     requires { ⌜ k < 10 ⌝ }
     ensures { λ r. ⌜ r ≡ rowLimit k ⌝ }
 {
-    ROW_LIMITS[k]
+    match k {
+        6 => 4096,
+        8 => 256,
+        9 => 4096,
+        _ => 1024,
+    }
 }
 
 fn offset_of(sheet: &[u8], k: usize) -> usize

@@ -9,7 +9,7 @@ use Rattle.backward_induction.specs.declared.Method.{Method}
 use Rattle.backward_induction.specs.Solve.{Solution, solve}
 use Rattle.memo.specs.declared.Visit.{Visit}
 use Rattle.memo.specs.declared.Visit.the-variants.{Solved, Refused}
-use Rattle.memo.specs.Memo.{Entry, height, solutionOf, Sized, Rows, entry, stored, Filled, Memo, Extends}
+use Rattle.memo.specs.Memo.{Entry, height, Rows, entry, stored, Filled, StandsFor, Memo, Extends}
 
 -- row i has the answer of the node e, and it holds with so much depth left
 pub record SolvedIn (s : List ℕ) (m : Rows) (left e i : ℕ) : Type 0 where
@@ -29,14 +29,13 @@ pub record Visits (method : Method) (s : List ℕ) (m m′ : Rows) (left e : ℕ
   pub visited : Visited method s m′ left e v
 
 -- the solution x is kept in a row, with that height
-pub record Keeps (m m′ : Rows) (row depth : ℕ) (x : Solution) : Type 0 where
+pub record Keeps (method : Method) (s : List ℕ) (m m′ : Rows) (row depth : ℕ) (x : Solution) : Type 0 where
   pub kept : Entry
-  pub sized : Sized kept
+  pub stands : StandsFor method s m kept x
   pub high : height kept ≡ depth
-  pub solution : solutionOf kept ≡ x
   pub memo : m′ ≡ stored m row kept
 
 -- an answer is kept in a row where it is a solution, and ends the solve where it is a refusal
-abbrev pub KeptAs : Rows → Rows → ℕ → ℕ → Answer Solution → Visit → Type 0
-KeptAs m m′ row depth (refused r) v = (m′ ≡ m) × (v ≡ Refused r)
-KeptAs m m′ row depth (done x) v = Keeps m m′ row depth x × (v ≡ Solved row)
+abbrev pub KeptAs : Method → List ℕ → Rows → Rows → ℕ → ℕ → Answer Solution → Visit → Type 0
+KeptAs method s m m′ row depth (refused r) v = (m′ ≡ m) × (v ≡ Refused r)
+KeptAs method s m m′ row depth (done x) v = Keeps method s m m′ row depth x × (v ≡ Solved row)

@@ -1,6 +1,6 @@
 // The memo of a solve, lent by its top function: for the node of each node row
-//   heads     its height, or 0 where it is not solved yet; 1 where its solution names a terminal; that terminal; how many actions; how many payoffs
-//   labels    the label numbers of its actions, last first
+//   heads     its height, or 0 where it is not solved yet; 1 where its solution names a terminal; that terminal; how many actions; how many payoffs;
+//             the label number of its first action; the row of the node that this action leads to, whose own actions follow it
 //   payoffs   its payoffs
 // The height is the depth that its answer needs: 1 for a terminal, else 1 more than the greatest height among the answers it used.
 // With at least that depth left the answer is the same, so the node is solved once; with less, it is walked again, which ends in 24.
@@ -38,7 +38,7 @@ pub fn wide(x: u32) -> usize
 }
 
 // The height of the answer in a row; 0 where there is none.
-pub fn height_at(heads: &[[u32; 5]], row: usize) -> usize
+pub fn height_at(heads: &[[u32; 7]], row: usize) -> usize
     requires { ⌜ row < length (now heads) ⌝ }
     ensures { λ r. ⌜ r ≡ getD (getD (now (heads .entry)) row []) 0 0 ⌝ }
 {
@@ -47,7 +47,7 @@ pub fn height_at(heads: &[[u32; 5]], row: usize) -> usize
 }
 
 // Whether a row has an answer that holds with so much depth left.
-pub fn is_known(heads: &[[u32; 5]], row: usize, left: usize) -> bool
+pub fn is_known(heads: &[[u32; 7]], row: usize, left: usize) -> bool
     requires { ⌜ row < length (now heads) ⌝ }
     ensures { λ r. ⌜ r ≡ known (getD (now (heads .entry)) row []) left ⌝ }
 {
@@ -59,7 +59,7 @@ pub fn is_known(heads: &[[u32; 5]], row: usize, left: usize) -> bool
 }
 
 // The greater of two heights, the second that of a row.
-pub fn deeper(heads: &[[u32; 5]], deepest: usize, row: usize) -> usize
+pub fn deeper(heads: &[[u32; 7]], deepest: usize, row: usize) -> usize
     requires { ⌜ row < length (now heads) ⌝ }
     ensures { λ r. ⌜ r ≡ max deepest (getD (getD (now (heads .entry)) row []) 0 0) ⌝ }
 {
@@ -72,18 +72,15 @@ pub fn deeper(heads: &[[u32; 5]], deepest: usize, row: usize) -> usize
 
 // Keeps an answer in a row.
 pub fn store(
-    heads: &mut [[u32; 5]],
-    labels: &mut [[u32; 64]],
+    heads: &mut [[u32; 7]],
     payoffs: &mut [[f64; 8]],
     row: usize,
-    head: [u32; 5],
-    names: [u32; 64],
+    head: [u32; 7],
     values: [f64; 8],
 )
-    requires { ⌜ Within (rows (now heads) (now labels) (now payoffs)) row ⌝ }
-    ensures { λ _. ⌜ rows (now (heads .exit)) (now (labels .exit)) (now (payoffs .exit)) ≡ stored (rows (now (heads .entry)) (now (labels .entry)) (now (payoffs .entry))) row (record { head = head; labels = names; payoffs = values }) ⌝ }
+    requires { ⌜ Within (rows (now heads) (now payoffs)) row ⌝ }
+    ensures { λ _. ⌜ rows (now (heads .exit)) (now (payoffs .exit)) ≡ stored (rows (now (heads .entry)) (now (payoffs .entry))) row (record { head = head; payoffs = values }) ⌝ }
 {
     heads[row] = head;
-    labels[row] = names;
     payoffs[row] = values;
 }

@@ -1,17 +1,12 @@
--- The rows of each section are wide enough for their fields, and what that says of a row with an entity.
+-- The rows of each section are wide enough for their fields.
 use Prim.Native.Nat.{ℕ, _≤_, _<_}
-use mathlib.Core.Path.{_≡_, sym, _∙_}
-use mathlib.Core.Bool.{Bool, true, false, not, false≢true}
+use mathlib.Core.Path.{_≡_}
+use mathlib.Core.Bool.{true, false≢true}
 use mathlib.Core.List.{List}
 use native.Mathlib.Omega.{arith}
-use borrow.Author.Tests.{not-false}
-use lib.ListN.{length}
-use Rattle.rows.specs.declared.Bounds.{Bounds}
-use Rattle.rows.specs.Rows.{rowsIn, Within}
-use Rattle.layout.specs.Layout.{width, section, rowCount}
+use Rattle.layout.specs.Layout.{width}
 use Rattle.layout.proofs.Sections.{each-section}
-use Rattle.layout.proofs.LayoutLaws.{size-least}
-use Rattle.opening.specs.SheetFault.{hasEntity, RowOf, Bounded}
+use Rattle.opening.specs.SheetFault.{hasEntity, RowOf, RowsOf}
 
 pub record RowWidths (s : List ℕ) : Type 0 where
   pub nodes : 12 ≤ width s 0
@@ -65,14 +60,6 @@ module _ {s : List ℕ} {k i : ℕ} (r : RowOf s k i) where
   pub widths : RowWidths s
   widths = row-widths s
 
-  -- what `width_of` asks
-  pub width-asked : (k < 10) × (92 ≤ length s)
-  width-asked = (r .section-number, size-least s (r .laid-out))
-
-  -- what `is_repeated` and `widened` ask of the section's bytes and its width, where the section names entities
-  pub entity-asked : {seen : Bounds} {w : ℕ} {rows : List ℕ} {b : Bool} → Bounded s k i seen → b ≡ hasEntity k → not b ≡ false → w ≡ width s k → rows ≡ section s k
-      → (i < rowsIn w rows) × (4 ≤ w) × Within w rows i seen
-  unfolding rowCount
-  entity-asked t e f p q =
-      let named : hasEntity k ≡ true = sym e ∙ not-false _ f in
-      rw (p, q) (r .row, entity-width s k (r .section-number) named, t named)
+-- a row among the first n
+pub row-among : {s : List ℕ} {k n i : ℕ} → RowsOf s k n → i < n → RowOf s k i
+row-among r l = let h = r .rows in record { section-number = r .section-number; laid-out = r .laid-out; row = omega arith }

@@ -1,15 +1,14 @@
 -- The first fault of a sheet, refusals 1 to 10, in 01's order. Definitions only.
-use Prim.Native.Nat.{ℕ, zero, suc, _+_, _%_, _<_}
+use Prim.Native.Nat.{ℕ, zero, suc, _+_, _%_, _≤_, _<_}
 use mathlib.Core.Path.{_≡_}
 use mathlib.Core.List.{List}
-use mathlib.Core.Bool.{Bool, true, not, cond, _&&_}
+use mathlib.Core.Bool.{Bool, true, false, not, cond, _&&_}
 use mathlib.Core.Option.{none}
 use lib.Dec.{ltb, eqb}
 use Rattle.answer.specs.Fault.{Fault, first, given, _▹_}
 use Rattle.answer.specs.Refusals.{badRow}
 use Rattle.layout.specs.Layout.{width, layoutFault, section, rowCount, field}
-use Rattle.rows.specs.declared.Bounds.{Bounds}
-use Rattle.rows.specs.Rows.{repeated, Within}
+use Rattle.rows.specs.Rows.{repeated}
 use Rattle.opening.specs.Faults.{fieldsFault}
 
 -- sections 0 to 5 and 7 name an entity in each row
@@ -45,6 +44,14 @@ pub record RowOf (s : List ℕ) (k i : ℕ) : Type 0 where
   pub laid-out : layoutFault s ≡ none
   pub row : i < rowCount s k
 
--- where section k names entities, those above row i are within the bounds
-abbrev pub Bounded : List ℕ → ℕ → ℕ → Bounds → Type 0
-Bounded s k i b = hasEntity k ≡ true → Within (width s k) (section s k) i b
+-- n of the rows of section k, from the first on
+pub record RowsOf (s : List ℕ) (k n : ℕ) : Type 0 where
+  pub section-number : k < 10
+  pub laid-out : layoutFault s ≡ none
+  pub rows : n ≤ rowCount s k
+
+-- r is the first row of section k that is refused for its entity, or the number of rows where none is
+pub record Unrepeated (s : List ℕ) (k r : ℕ) : Type 0 where
+  pub within : r ≤ rowCount s k
+  pub new : (i : ℕ) → i < r → hasEntity k && repeated (width s k) (section s k) i ≡ false
+  pub repeats : r < rowCount s k → hasEntity k && repeated (width s k) (section s k) r ≡ true

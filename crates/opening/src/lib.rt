@@ -1,13 +1,13 @@
 // The rows of a sheet: what opening it checks after its layout.
 ghost use mathlib.Core.Path.{_≡_};
 ghost use mathlib.Core.Option.{none};
-ghost use mathlib.Core.Bool.{true, _&&_};
+ghost use mathlib.Core.Bool.{true};
 ghost use Prim.Native.Nat.{_+_, _%_, _≤_, _<_};
 ghost use Rattle.answer.specs.Fault.{faultOf, first};
-ghost use Rattle.rows.specs.Rows.{repeated, findRow, foundAt};
+ghost use Rattle.rows.specs.Rows.{findRow, foundAt};
 ghost use Rattle.layout.specs.Layout.{width, layoutFault, section, rowCount};
 ghost use Rattle.opening.specs.Faults.{nodeFault, labelFault, chanceFault, terminalFault, payoffFault, setFault, labelEnd, previousEnd, labelRowFault, textFault, fieldsFault};
-ghost use Rattle.opening.specs.SheetFault.{hasEntity, rowFault, payoffStart, totalFault, rowsFault, sheetFault, RowOf, Bounded};
+ghost use Rattle.opening.specs.SheetFault.{hasEntity, rowFault, payoffStart, totalFault, rowsFault, sheetFault, RowOf, RowsOf, Unrepeated};
 use answer::Check;
 use answer::refuse;
 use layout::row_count;
@@ -15,7 +15,6 @@ use layout::section_of;
 use layout::u32_field;
 use layout::u64_field;
 use layout::width_of;
-use rows::Bounds;
 
 const NO_PLAYER: u32 = 4294967295;
 
@@ -155,22 +154,143 @@ fn check_text(sheet: &[u8], i: usize) -> Check
     Check::Passed
 }
 
-// Row i of section k, but for a repeated entity.
-fn check_fields(sheet: &[u8], k: usize, i: usize) -> Check
-    requires { ⌜ RowOf (now sheet) k i ⌝ }
-    ensures { λ r. ⌜ faultOf r ≡ fieldsFault (now (sheet .entry)) k i ⌝ }
+// The first n rows of a section: a loop for each kind, so that no row asks for its section.
+fn check_nodes(sheet: &[u8], n: usize) -> Check
+    requires { ⌜ RowsOf (now sheet) 0 n ⌝ }
+    ensures { λ r. ⌜ faultOf r ≡ first n (nodeFault (now (sheet .entry))) ⌝ }
+{
+    let mut i = 0;
+    while i < n {
+        let v = check_node(sheet, i);
+        if let Check::Refused(_) = v {
+            return v;
+        }
+        i += 1;
+    }
+    Check::Passed
+}
+
+fn check_actions(sheet: &[u8], n: usize) -> Check
+    requires { ⌜ RowsOf (now sheet) 2 n ⌝ }
+    ensures { λ r. ⌜ faultOf r ≡ first n (labelFault (now (sheet .entry)) 2) ⌝ }
+{
+    let mut i = 0;
+    while i < n {
+        let v = check_label_use(sheet, 2, i);
+        if let Check::Refused(_) = v {
+            return v;
+        }
+        i += 1;
+    }
+    Check::Passed
+}
+
+fn check_chances(sheet: &[u8], n: usize) -> Check
+    requires { ⌜ RowsOf (now sheet) 3 n ⌝ }
+    ensures { λ r. ⌜ faultOf r ≡ first n (chanceFault (now (sheet .entry))) ⌝ }
+{
+    let mut i = 0;
+    while i < n {
+        let v = check_chance(sheet, i);
+        if let Check::Refused(_) = v {
+            return v;
+        }
+        i += 1;
+    }
+    Check::Passed
+}
+
+fn check_terminals(sheet: &[u8], n: usize) -> Check
+    requires { ⌜ RowsOf (now sheet) 5 n ⌝ }
+    ensures { λ r. ⌜ faultOf r ≡ first n (terminalFault (now (sheet .entry))) ⌝ }
+{
+    let mut i = 0;
+    while i < n {
+        let v = check_terminal(sheet, i);
+        if let Check::Refused(_) = v {
+            return v;
+        }
+        i += 1;
+    }
+    Check::Passed
+}
+
+fn check_payoffs(sheet: &[u8], n: usize) -> Check
+    requires { ⌜ RowsOf (now sheet) 6 n ⌝ }
+    ensures { λ r. ⌜ faultOf r ≡ first n (payoffFault (now (sheet .entry))) ⌝ }
+{
+    let mut i = 0;
+    while i < n {
+        let v = check_payoff(sheet, i);
+        if let Check::Refused(_) = v {
+            return v;
+        }
+        i += 1;
+    }
+    Check::Passed
+}
+
+fn check_sets(sheet: &[u8], n: usize) -> Check
+    requires { ⌜ RowsOf (now sheet) 7 n ⌝ }
+    ensures { λ r. ⌜ faultOf r ≡ first n (setFault (now (sheet .entry))) ⌝ }
+{
+    let mut i = 0;
+    while i < n {
+        let v = check_set(sheet, i);
+        if let Check::Refused(_) = v {
+            return v;
+        }
+        i += 1;
+    }
+    Check::Passed
+}
+
+fn check_labels(sheet: &[u8], n: usize) -> Check
+    requires { ⌜ RowsOf (now sheet) 8 n ⌝ }
+    ensures { λ r. ⌜ faultOf r ≡ first n (labelRowFault (now (sheet .entry))) ⌝ }
+{
+    let mut i = 0;
+    while i < n {
+        let v = check_label(sheet, i);
+        if let Check::Refused(_) = v {
+            return v;
+        }
+        i += 1;
+    }
+    Check::Passed
+}
+
+fn check_bytes(sheet: &[u8], n: usize) -> Check
+    requires { ⌜ RowsOf (now sheet) 9 n ⌝ }
+    ensures { λ r. ⌜ faultOf r ≡ first n (textFault (now (sheet .entry))) ⌝ }
+{
+    let mut i = 0;
+    while i < n {
+        let v = check_text(sheet, i);
+        if let Check::Refused(_) = v {
+            return v;
+        }
+        i += 1;
+    }
+    Check::Passed
+}
+
+// The first n rows of section k, but for repeated entities.
+fn check_fields(sheet: &[u8], k: usize, n: usize) -> Check
+    requires { ⌜ RowsOf (now sheet) k n ⌝ }
+    ensures { λ r. ⌜ faultOf r ≡ first n (fieldsFault (now (sheet .entry)) k) ⌝ }
 {
     match k {
-        0 => check_node(sheet, i),
+        0 => check_nodes(sheet, n),
         1 => Check::Passed,
-        2 => check_label_use(sheet, 2, i),
-        3 => check_chance(sheet, i),
+        2 => check_actions(sheet, n),
+        3 => check_chances(sheet, n),
         4 => Check::Passed,
-        5 => check_terminal(sheet, i),
-        6 => check_payoff(sheet, i),
-        7 => check_set(sheet, i),
-        8 => check_label(sheet, i),
-        9 => check_text(sheet, i),
+        5 => check_terminals(sheet, n),
+        6 => check_payoffs(sheet, n),
+        7 => check_sets(sheet, n),
+        8 => check_labels(sheet, n),
+        9 => check_bytes(sheet, n),
         _ => Check::Passed,
     }
 }
@@ -184,56 +304,29 @@ fn has_entity(k: usize) -> bool
     k != 6
 }
 
-// Whether an earlier row names row i's entity, which is new outside the bounds of the earlier ones.
-fn repeats(sheet: &[u8], k: usize, i: usize, seen: Bounds) -> bool
-    requires { ⌜ RowOf (now sheet) k i × Bounded (now sheet) k i seen ⌝ }
-    ensures { λ r. ⌜ r ≡ (hasEntity k && repeated (width (now (sheet .entry)) k) (section (now (sheet .entry)) k) i) ⌝ }
+// How many rows of section k are above the first that names an earlier row's entity.
+fn distinct_rows(sheet: &[u8], k: usize) -> usize
+    requires { ⌜ (k < 10) × (layoutFault (now sheet) ≡ none) ⌝ }
+    ensures { λ r. ⌜ Unrepeated (now (sheet .entry)) k r ⌝ }
 {
     if !has_entity(k) {
-        return false;
+        return row_count(sheet, k);
     }
-    rows::is_repeated(section_of(sheet, k), width_of(sheet, k), i, seen)
+    repeats::first_repeated(section_of(sheet, k), width_of(sheet, k))
 }
 
-// Bounds on the entities up to row i.
-fn next_bounds(sheet: &[u8], k: usize, i: usize, seen: Bounds) -> Bounds
-    requires { ⌜ RowOf (now sheet) k i × Bounded (now sheet) k i seen ⌝ }
-    ensures { λ r. ⌜ Bounded (now (sheet .entry)) k (i + 1) r ⌝ }
-{
-    if !has_entity(k) {
-        return seen;
-    }
-    rows::widened(section_of(sheet, k), width_of(sheet, k), i, seen)
-}
-
-fn check_row(sheet: &[u8], k: usize, i: usize, seen: Bounds) -> Check
-    requires { ⌜ RowOf (now sheet) k i × Bounded (now sheet) k i seen ⌝ }
-    ensures { λ r. ⌜ faultOf r ≡ rowFault (now (sheet .entry)) k i ⌝ }
-{
-    if repeats(sheet, k, i, seen) {
-        return refuse(5, k as u64, i as u64, 0, 0);
-    }
-    check_fields(sheet, k, i)
-}
-
-// Every entity is outside the bounds that the rows start with.
 fn check_rows(sheet: &[u8], k: usize) -> Check
     requires { ⌜ (k < 10) × (layoutFault (now sheet) ≡ none) ⌝ }
     ensures { λ r. ⌜ faultOf r ≡ first (rowCount (now (sheet .entry)) k) (rowFault (now (sheet .entry)) k) ⌝ }
 {
     let n = row_count(sheet, k);
-    let mut seen = Bounds {
-        bottom: 4294967296,
-        top: 0,
-    };
-    let mut i = 0;
-    while i < n {
-        let v = check_row(sheet, k, i, seen);
-        if let Check::Refused(_) = v {
-            return v;
-        }
-        seen = next_bounds(sheet, k, i, seen);
-        i += 1;
+    let stop = distinct_rows(sheet, k);
+    let v = check_fields(sheet, k, stop);
+    if let Check::Refused(_) = v {
+        return v;
+    }
+    if stop < n {
+        return refuse(5, k as u64, stop as u64, 0, 0);
     }
     Check::Passed
 }

@@ -7,12 +7,10 @@ use mathlib.Core.Option.{Option, none, some}
 use native.Mathlib.Nat.{le-div-iff-mul-le, mul-le-mul-left, mul-div-le, mul-suc, le-antisymm}
 use native.Mathlib.Omega.{arith}
 use borrow.Author.Tests.{ne-eqb, eq-eqb, eqb-true, eqb-false}
-use borrow.Author.Count.{below-more}
 use lib.ListN.{length}
 use lib.Dec.{eqb}
 use Rattle.answer.proofs.FaultLaws.{first-zero, first-more, first-stop, first-none, first-at, first-found, given-true, given-false, given-none, given-some}
-use Rattle.rows.specs.declared.Bounds.{Bounds}
-use Rattle.rows.specs.Rows.{rowsIn, entityAt, findRow, isSome, repeated, Distinct, Within}
+use Rattle.rows.specs.Rows.{rowsIn, entityAt, findRow, isSome, repeated, Distinct}
 
 -- row i of whole rows of w bytes ends within the bytes
 pub row-fits : (w : ℕ) (rows : List ℕ) (i : ℕ) → i < rowsIn w rows → w * i + w ≤ length rows
@@ -66,21 +64,6 @@ found-in w rows n e i p = (found w rows n e i p .0, found w rows n e i p .1)
 
 pub found-first : (w : ℕ) (rows : List ℕ) (n e i : ℕ) → findRow w rows n e ≡ some i → findRow w rows i e ≡ none
 found-first w rows n e i p = found w rows n e i p .2
-
--- an entity below the bounds or above them is not found
-pub not-below : (w : ℕ) (rows : List ℕ) (n : ℕ) (b : Bounds) (e : ℕ) → Within w rows n b → e < b .bottom → findRow w rows n e ≡ none
-not-below w rows n b e h l = not-named w rows n e (λ j k q. omega (arith, h j k .0))
-
-pub not-above : (w : ℕ) (rows : List ℕ) (n : ℕ) (b : Bounds) (e : ℕ) → Within w rows n b → b .top ≤ e → findRow w rows n e ≡ none
-not-above w rows n b e h l = not-named w rows n e (λ j k q. omega (arith, h j k .1))
-
--- bounds on one entity more
-pub within-next : (w : ℕ) (rows : List ℕ) (i : ℕ) (b next : Bounds) → Within w rows i b → next .bottom ≤ b .bottom → b .top ≤ next .top
-    → next .bottom ≤ entityAt w rows i → entityAt w rows i < next .top → Within w rows (i + 1) next
-within-next w rows i b next h l u m o =
-    below-more (λ (j : ℕ). (next .bottom ≤ entityAt w rows j) × (entityAt w rows j < next .top)) i
-    (λ j k. (omega (arith, h j k .0), omega (arith, h j k .1)))
-    (m, o)
 
 -- ---- entities that do not repeat
 pub new-entity : (w : ℕ) (rows : List ℕ) (i : ℕ) → repeated w rows i ≡ false → findRow w rows i (entityAt w rows i) ≡ none

@@ -1,5 +1,5 @@
 -- Rows of any width: `rows` is a list of bytes, w the bytes in a row, i a row's number from 0. Definitions only.
-use Prim.Native.Nat.{ℕ, _+_, _*_, _/_, _≤_, _<_}
+use Prim.Native.Nat.{ℕ, _+_, _*_, _/_, _<_}
 use mathlib.Core.Path.{_≡_}
 use mathlib.Core.List.{List}
 use mathlib.Core.Bool.{Bool, true, false}
@@ -8,7 +8,6 @@ use lib.ListN.{length}
 use lib.Dec.{eqb}
 use Rattle.little_endian.specs.LittleEndian.{littleEndian}
 use Rattle.answer.specs.Fault.{first, given}
-use Rattle.rows.specs.declared.Bounds.{Bounds}
 use Rattle.rows.specs.declared.Found.{Found}
 use Rattle.rows.specs.declared.Found.the-variants.{At, Nothing}
 
@@ -46,7 +45,3 @@ repeated w rows i = isSome (findRow w rows i (entityAt w rows i))
 -- no row among the first n names an earlier row's entity
 abbrev pub Distinct : ℕ → List ℕ → ℕ → Type 0
 Distinct w rows n = (i : ℕ) → i < n → repeated w rows i ≡ false
-
--- every entity of the first n rows is at least bottom and below top
-abbrev pub Within : ℕ → List ℕ → ℕ → Bounds → Type 0
-Within w rows n b = (j : ℕ) → j < n → (b .bottom ≤ entityAt w rows j) × (entityAt w rows j < b .top)

@@ -2,17 +2,11 @@
 ghost use mathlib.Core.Path.{_≡_};
 ghost use mathlib.Core.Bool.{true};
 ghost use Prim.Native.Nat.{_+_, _*_, _≤_, _<_};
-ghost use Rattle.rows.specs.Rows.{rowsIn, u32Field, u64Field, findRow, foundAt, repeated, Within, Distinct};
+ghost use Rattle.rows.specs.Rows.{rowsIn, u32Field, u64Field, findRow, foundAt, Distinct};
 
 pub enum Found {
     At(usize),
     Nothing,
-}
-
-// Entities of some rows are at least bottom and below top.
-pub struct Bounds {
-    pub bottom: u64,
-    pub top: u64,
 }
 
 // How many whole rows there are.
@@ -146,52 +140,4 @@ pub fn find_distinct(rows: &[u8], w: usize, entity: u32) -> Found
         }
     }
     find_halving(rows, w, count(rows, w), entity)
-}
-
-// Whether an earlier row names row i's entity. An entity outside the bounds of the earlier ones is new, and no row is searched.
-pub fn is_repeated(rows: &[u8], w: usize, i: usize, seen: Bounds) -> bool
-    requires { ⌜ (i < rowsIn w (now rows)) × (4 ≤ w) × Within w (now rows) i seen ⌝ }
-    ensures { λ r. ⌜ r ≡ repeated w (now (rows .entry)) i ⌝ }
-{
-    let e = field(rows, w, i, 0);
-    if (e as u64) < seen.bottom {
-        return false;
-    }
-    if seen.top <= e as u64 {
-        return false;
-    }
-    match find_row(rows, w, i, e) {
-        Found::At(_) => true,
-        Found::Nothing => false,
-    }
-}
-
-fn least(a: u64, b: u64) -> u64
-    ensures { λ r. ⌜ (r ≤ a) × (r ≤ b) ⌝ }
-{
-    if a < b {
-        return a;
-    }
-    b
-}
-
-fn greatest(a: u64, b: u64) -> u64
-    ensures { λ r. ⌜ (a ≤ r) × (b ≤ r) ⌝ }
-{
-    if a < b {
-        return b;
-    }
-    a
-}
-
-// Bounds on row i's entity too.
-pub fn widened(rows: &[u8], w: usize, i: usize, seen: Bounds) -> Bounds
-    requires { ⌜ (i < rowsIn w (now rows)) × (4 ≤ w) × Within w (now rows) i seen ⌝ }
-    ensures { λ r. ⌜ Within w (now (rows .entry)) (i + 1) r ⌝ }
-{
-    let e = field(rows, w, i, 0) as u64;
-    Bounds {
-        bottom: least(seen.bottom, e),
-        top: greatest(seen.top, e + 1),
-    }
 }

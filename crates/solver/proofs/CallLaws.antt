@@ -22,7 +22,7 @@ use Rattle.entering.specs.Solving.{Lent}
 
 -- n rows that are all zero, where the sheet has no more
 pub lent : (method : Method) (s : List ℕ) (n : ℕ) → rowCount s 0 ≤ n → rowCount s 1 ≤ n
-    → Lent method s (replicate (2 * n) 0) (rows (replicate n (replicate 5 0)) (replicate n (replicate 64 0)) (replicate n (replicate 8 (ofBits binary64 0))))
+    → Lent method s (replicate (2 * n) 0) (rows (replicate n (replicate 7 0)) (replicate n (replicate 8 (ofBits binary64 0))))
 lent method s n nodes children =
     record {
       node-room = simp length-replicate (omega arith);

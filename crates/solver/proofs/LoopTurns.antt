@@ -9,6 +9,7 @@ use denote.Enum.Declared
 use Rattle.number.specs.Number.{Number}
 use Rattle.number.specs.Meaning.{meaning}
 use Rattle.answer.specs.declared.Refusal.{Refusal}
+use Rattle.answer.specs.declared.Check.{Check}
 use Rattle.answer.specs.declared.Check.the-variants as Checks
 use Rattle.answer.specs.Fault.{faultOf}
 use Rattle.answer.specs.Answer.{refused, done}
@@ -33,15 +34,14 @@ use Rattle.backward_induction.specs.Solve.{solve}
 use Rattle.backward_induction.specs.Turns.{addedTo}
 use Rattle.memo.specs.declared.Visit.{Visit}
 use Rattle.memo.specs.declared.Visit.the-variants.{Solved, Refused}
-use Rattle.memo.specs.Memo.{Rows, entry, height, payoffsOf}
+use Rattle.memo.specs.Memo.{Rows, entry, height, payoffCount, payoffsOf, Tells, solutionAt, Memo}
 use Rattle.memo.specs.Visits.{Visits, KeptAs}
 use Rattle.turns.specs.declared.Best.{Best}
 use Rattle.turns.specs.declared.ReplyTurn.{ReplyTurn}
 use Rattle.turns.specs.declared.ReplyTurn.the-variants.{Go, Stop}
 use Rattle.turns.specs.declared.Sums.{Sums}
-use Rattle.turns.specs.declared.SumsTurn.{SumsTurn}
-use Rattle.turns.specs.Replies.{leadIn, Replied, ExtendableBest, decided}
-use Rattle.turns.specs.Sums.{Holds, TurnIs, weighedUp}
+use Rattle.turns.specs.Replies.{leadIn, KeptIn, Replied, ExtendableBest, decided}
+use Rattle.turns.specs.Sums.{Holds, countFault, weighedUp}
 use Rattle.entering.specs.Solving.{Deciding, Weighing}
 use Rattle.solver.proofs.Walks.{Walk, in-rows, next-child, visited-as, walk-refused, walk-kept}
 use Rattle.solver.proofs.ReplyWalk as Replying
@@ -59,14 +59,15 @@ not-first (inr e) = absurd (omega arith)
 module _ {method : Method} {s links : List ℕ} {m₀ m : Rows} {row e p left n i deepest : ℕ} {best : Best} (walk : Walk method s links m₀ m row e left n i deepest) (deciding : Deciding method s m e p i deepest best) where
   -- the end
   module _ (end : n ≤ i) where
-    replied : (k : ℕ) → deepest ≤ k → solve method (gameOf s) (suc k) e ≡ decided e (leadIn m best)
+    replied : (k : ℕ) → deepest ≤ k → solve method (gameOf s) (suc k) e ≡ decided e (leadIn method s best)
     replied = let q = walk .rows in Replying.all-replies deciding (omega arith)
 
     pub decision-room : ExtendableBest m deepest best
     decision-room = Replying.best-extends (walk .opens) (walk .memo) e deepest best (deciding .kept) (replied deepest (omega arith))
 
-    pub decision-ends : (m′ : Rows) {v : Visit} → KeptAs m m′ row (deepest + 1) (decided e (leadIn m best)) v → Visits method s m₀ m′ left e v
-    decision-ends m′ kept = walk-kept walk m′ (decided e (leadIn m best)) kept replied
+    pub decision-ends : (m′ : Rows) {v : Visit}
+        → ((by : Method) (sheet : List ℕ) → Memo by sheet m → KeptIn sheet m best → KeptAs by sheet m m′ row (deepest + 1) (decided e (leadIn by sheet best)) v) → Visits method s m₀ m′ left e v
+    decision-ends m′ kept = walk-kept walk m′ (decided e (leadIn method s best)) (kept method s (walk .memo) (deciding .kept)) replied
 
   module _ (turn : i < n) {j : ℕ} (to : j ≡ nextChild links i) where
     child-row : i < rowCount s 1
@@ -90,22 +91,26 @@ module _ {method : Method} {s links : List ℕ} {m₀ m : Rows} {row e p left n 
             let deep = walk .deep in
             visited-as m₀ m′ (sym q) (so (Replying.target-refused deciding child-row edge (omega arith) (visited-as m m′ q visit .visited)))
 
-        module _ {at : ℕ} (there : v ≡ Solved at) {t : ReplyTurn} (replied-to : Replied m′ p best x at t) where
+        module _ {at : ℕ} (there : v ≡ Solved at) {t : ReplyTurn}
+            (replies : (by : Method) (sheet : List ℕ) → Tells (entry m′ at) (solutionAt by sheet at) → Replied by sheet p best x at t) where
+          replied-to : Replied method s p best x at t
+          replied-to = let visited = visited-as m m′ there visit in replies method s (visited .memo .right at (visited .visited .filled) .stands .tells)
+
           pub reply-stops : {r : Refusal} → t ≡ Stop r → Visits method s m₀ m′ left e (Refused r)
           reply-stops q =
               let deep = walk .deep in
-              so (Replying.reply-stops deciding child-row edge (walk .memo) (visited-as m m′ there visit) (subst (Replied m′ p best x at) q replied-to) (omega arith) (omega arith))
+              so (Replying.reply-stops deciding child-row edge (visited-as m m′ there visit) (subst (Replied method s p best x at) q replied-to) (omega arith) (omega arith))
 
           pub reply-goes : {next : Best} {depth : ℕ} → t ≡ Go next → depth ≡ max deepest (height (entry m′ at)) → Deciding method s m′ e p j depth next
-          reply-goes q d = Replying.replies-from (Replying.reply-goes deciding child-row edge (walk .memo) (visited-as m m′ there visit) (subst (Replied m′ p best x at) q replied-to) d) (next-child walk turn to)
+          reply-goes q d = Replying.replies-from (Replying.reply-goes deciding child-row edge (visited-as m m′ there visit) (subst (Replied method s p best x at) q replied-to) d) (next-child walk turn to)
 
 -- ---- a chance node
 module _ {method : Method} {s links : List ℕ} {m₀ m : Rows} {row e left n i deepest : ℕ} {w : Sums} (walk : Walk method s links m₀ m row e left n i deepest) (weighing : Weighing method s e i deepest w) where
   -- the end
-  pub chance-ends : n ≤ i → (m′ : Rows) {v : Visit} → ((sums : Option (List Number)) → Holds w sums → KeptAs m m′ row (deepest + 1) (weighedUp e sums) v) → Visits method s m₀ m′ left e v
+  pub chance-ends : n ≤ i → (m′ : Rows) {v : Visit} → ((by : Method) (sheet : List ℕ) (sums : Option (List Number)) → Holds w sums → KeptAs by sheet m m′ row (deepest + 1) (weighedUp e sums) v) → Visits method s m₀ m′ left e v
   chance-ends end m′ kept =
       let q = walk .rows in
-      walk-kept walk m′ (weighedUp e (weighing .sums)) (kept (weighing .sums) (weighing .held)) (Weighing-up.all-outcomes weighing (omega arith))
+      walk-kept walk m′ (weighedUp e (weighing .sums)) (kept method s (weighing .sums) (weighing .held)) (Weighing-up.all-outcomes weighing (omega arith))
 
   module _ (turn : i < n) {j : ℕ} (to : j ≡ nextChild links i) where
     outcome-row : i < rowCount s 1
@@ -129,12 +134,14 @@ module _ {method : Method} {s links : List ℕ} {m₀ m : Rows} {row e left n i 
             let deep = walk .deep in
             visited-as m₀ m′ (sym q) (so-chance (Weighing-up.target-refused weighing outcome-row outcome (omega arith) (visited-as m m′ q visit .visited)))
 
-        module _ {at : ℕ} (there : v ≡ Solved at) {t : SumsTurn}
-            (turned : (sums : Option (List Number)) → Holds w sums → TurnIs t (addedTo e sums (meaning (o .probability)) (payoffsOf (entry m′ at .head) (entry m′ at .payoffs)))) where
-          pub outcome-stops : {r : Refusal} → t .fault ≡ Checks.Refused r → Visits method s m₀ m′ left e (Refused r)
+        module _ {at : ℕ} (there : v ≡ Solved at) (f : Check) (counted : faultOf f ≡ countFault e (w .started) (w .count) (payoffCount (entry m′ at))) where
+          pub outcome-stops : {r : Refusal} → f ≡ Checks.Refused r → Visits method s m₀ m′ left e (Refused r)
           outcome-stops q =
               let deep = walk .deep in
-              so-chance (Weighing-up.outcome-stops weighing outcome-row outcome (visited-as m m′ there visit) turned (ap faultOf q) (omega arith) (omega arith))
+              so-chance (Weighing-up.outcome-stops weighing outcome-row outcome (visited-as m m′ there visit) counted (ap faultOf q) (omega arith) (omega arith))
 
-          pub outcome-goes : {depth : ℕ} → t .fault ≡ Checks.Passed → depth ≡ max deepest (height (entry m′ at)) → Weighing method s e j depth (t .sums)
-          outcome-goes q d = Weighing-up.outcomes-from (Weighing-up.outcome-goes weighing outcome-row outcome (visited-as m m′ there visit) turned (ap faultOf q) d) (next-child walk turn to)
+          pub outcome-goes : {next : Sums} {depth : ℕ}
+              → ((any : ℕ) (sums : Option (List Number)) (more : List Number) → Holds w sums → addedTo any sums (meaning (o .probability)) (payoffsOf (entry m′ at .head) (entry m′ at .payoffs)) ≡ done more → Holds next (some more))
+              → f ≡ Checks.Passed → depth ≡ max deepest (height (entry m′ at)) → Weighing method s e j depth next
+          outcome-goes goes q d =
+              Weighing-up.outcomes-from (Weighing-up.outcome-goes weighing outcome-row outcome (visited-as m m′ there visit) counted (λ more a. goes e (weighing .sums) more (weighing .held) a) (ap faultOf q) d) (next-child walk turn to)

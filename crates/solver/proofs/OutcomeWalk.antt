@@ -1,13 +1,16 @@
 -- The walk along the child rows of a chance node: a row that is no outcome, an outcome whose target is refused, one that stops or goes on with the sums, and the end.
-use mathlib.Core.Path.{_≡_, refl, sym, ap, _∙_}
+use mathlib.Core.Path.{_≡_, sym, ap, _∙_}
 use mathlib.Core.List.{List, [], _∷_}
 use mathlib.Core.Option.{Option, none, some}
 use Prim.Native.Nat.{ℕ, suc, _+_, _<_, _≤_, max}
 use native.Mathlib.Omega.{arith}
+use lib.ListN.{length, take, length-map}
+use lib.Seq.{length-take-le}
 use Rattle.number.specs.Number.{Number}
+use Rattle.number.specs.Meaning.{meaning}
 use Rattle.answer.specs.declared.Refusal.{Refusal}
-use Rattle.answer.specs.Fault.{faultOf}
-use Rattle.answer.specs.Answer.{Answer, refused, done, _>>=_}
+use Rattle.answer.specs.Fault.{Fault}
+use Rattle.answer.specs.Answer.{Answer, refused, done, _>>=_, faultIn}
 use Rattle.layout.specs.Layout.{rowCount}
 use Rattle.graph_relations.specs.RelationRows.{childRow}
 use Rattle.game.specs.Game.{Chance}
@@ -21,27 +24,19 @@ use Rattle.backward_induction.specs.declared.Method.{Method}
 use Rattle.backward_induction.specs.Solve.{Solution, Solver, inRange, solve}
 use Rattle.backward_induction.specs.Turns.{addedTo, sumsFrom}
 use Rattle.backward_induction.proofs.SolveLaws.{sumsFrom-cons, sumsFrom-stop}
-use Rattle.memo.specs.Memo.{Rows, entry, height, solutionOf, payoffsOf}
+use Rattle.memo.specs.Memo.{Rows, entry, height, payoffCount, payoffsOf, solutionAt}
 use Rattle.memo.specs.Visits.{Visits}
 use Rattle.memo.specs.declared.Visit.the-variants.{Solved}
 use Rattle.turns.specs.declared.Sums.{Sums}
-use Rattle.turns.specs.declared.SumsTurn.{SumsTurn}
-use Rattle.turns.specs.Sums.{Holds, TurnIs, weighedUp}
+use Rattle.turns.specs.Sums.{Holds, countFault, weighedUp}
+use Rattle.turns.proofs.SumsTurns.{count-fault}
 use Rattle.entering.specs.Solving.{Weighing}
+use Rattle.entering.proofs.Entering.{fault-refused, no-fault}
 use Rattle.solver.proofs.ReplyWalk.{solved-target}
 
 -- the solution of a chance node with these sums
 abbrev summed : ℕ → Answer (List Number) → Answer Solution
 summed e a = a >>= λ vs. inRange e vs >>= λ ws. done (record { terminal = none; actions = []; payoffs = ws })
-
--- ---- what a turn says
-turn-refused : (t : SumsTurn) (a : Answer (List Number)) (r : Refusal) → TurnIs t a → faultOf (t .fault) ≡ some r → a ≡ refused r
-turn-refused t (refused x) r h q = cc
-turn-refused t (done more) r h q = let u = h .0 in let z : _≡_ {A = ℕ} 0 1 = cc in absurd (omega arith)
-
-turn-done : {P : Type 0} (t : SumsTurn) (a : Answer (List Number)) → TurnIs t a → faultOf (t .fault) ≡ none → ((more : List Number) → a ≡ done more → Holds (t .sums) (some more) → P) → P
-turn-done t (refused x) h q next = let z : _≡_ {A = ℕ} 0 1 = cc in absurd (omega arith)
-turn-done t (done more) h q next = next more refl (h .1)
 
 -- one outcome with the answer of its target
 sums-turn : (f : Solver) (e : ℕ) (sums : Option (List Number)) (o : Chance) (os : List Chance) (x : Solution) → f (o .target) ≡ done x
@@ -81,27 +76,37 @@ module _ {method : Method} {s : List ℕ} {e i deepest : ℕ} {w : Sums} (walk :
       target-refused {k} {r} h q = next-outcome λ os l right. right k h ∙ ap (summed e) (sumsFrom-stop (solve method (gameOf s) k) e (walk .sums) o os r q)
 
       -- ---- the target's answer is in a row of the memo
-      module _ {m m′ : Rows} {left at : ℕ} (visit : Visits method s m m′ left (o .target) (Solved at)) {turn : SumsTurn}
-          (turned : (sums : Option (List Number)) → Holds w sums → TurnIs turn (addedTo e sums (o .probability) (payoffsOf (entry m′ at .head) (entry m′ at .payoffs)))) where
-        sums-go : (os : List Chance) (a : Answer (List Number)) → addedTo e (walk .sums) (o .probability) (payoffsOf (entry m′ at .head) (entry m′ at .payoffs)) ≡ a → (k : ℕ) → height (entry m′ at) ≤ k
+      module _ {m m′ : Rows} {left at : ℕ} (visit : Visits method s m m′ left (o .target) (Solved at)) {fault : Fault} (counted : fault ≡ countFault e (w .started) (w .count) (payoffCount (entry m′ at))) where
+        abbrev target-payoffs : List Number
+        target-payoffs = payoffsOf (entry m′ at .head) (entry m′ at .payoffs)
+
+        fault-is : fault ≡ faultIn (addedTo e (walk .sums) (o .probability) target-payoffs)
+        fault-is =
+            let x = entry m′ at in
+            let room = visit .memo .right at (visit .visited .filled) .stands .sized .payoff-room in
+            let n : length target-payoffs ≡ payoffCount x = length-map (take (payoffCount x) (x .payoffs)) meaning ∙ length-take-le (payoffCount x) (x .payoffs) (omega arith) in
+            counted ∙ count-fault w e (o .probability) target-payoffs (payoffCount x) n (walk .sums) (walk .held)
+
+        sums-go : (os : List Chance) (a : Answer (List Number)) → addedTo e (walk .sums) (o .probability) target-payoffs ≡ a → (k : ℕ) → height (entry m′ at) ≤ k
             → summed e (sumsFrom (solve method (gameOf s) k) e (walk .sums) (o ∷ os)) ≡ summed e (a >>= λ more. sumsFrom (solve method (gameOf s) k) e (some more) os)
-        unfolding solutionOf
         sums-go os a q k h =
-            ap (summed e) (sums-turn (solve method (gameOf s) k) e (walk .sums) o os (solutionOf (entry m′ at)) (solved-target m′ (visit .memo) (visit .visited) k h)
-            ∙ ap (λ b. b >>= λ more. sumsFrom (solve method (gameOf s) k) e (some more) os) q)
+            let payoffs = visit .memo .right at (visit .visited .filled) .stands .tells .payoffs in
+            ap (summed e) (sums-turn (solve method (gameOf s) k) e (walk .sums) o os (solutionAt method s at) (solved-target m′ (visit .memo) (visit .visited) k h)
+            ∙ ap (λ b. b >>= λ more. sumsFrom (solve method (gameOf s) k) e (some more) os) (ap (addedTo e (walk .sums) (o .probability)) payoffs ∙ q))
 
-        pub outcome-stops : {r : Refusal} {k : ℕ} → faultOf (turn .fault) ≡ some r → deepest ≤ k → left ≤ k → solve method (gameOf s) (suc k) e ≡ refused r
-        outcome-stops {r} {k} f h l =
+        pub outcome-stops : {r : Refusal} {k : ℕ} → fault ≡ some r → deepest ≤ k → left ≤ k → solve method (gameOf s) (suc k) e ≡ refused r
+        outcome-stops {r} {k} q h l =
             let near = visit .visited .near in
-            next-outcome λ os _ right. right k h ∙ sums-go os (refused r) (turn-refused turn _ r (turned (walk .sums) (walk .held)) f) k (omega arith)
+            next-outcome λ os _ right. right k h ∙ sums-go os (refused r) (fault-refused _ r (sym q ∙ fault-is)) k (omega arith)
 
-        pub outcome-goes : {depth : ℕ} → faultOf (turn .fault) ≡ none → depth ≡ max deepest (height (entry m′ at)) → Weighing method s e (i + 1) depth (turn .sums)
-        outcome-goes {depth} f d =
-            turn-done turn _ (turned (walk .sums) (walk .held)) f λ more q held.
+        pub outcome-goes : {next : Sums} {depth : ℕ} → ((more : List Number) → addedTo e (walk .sums) (o .probability) target-payoffs ≡ done more → Holds next (some more)) → fault ≡ none
+            → depth ≡ max deepest (height (entry m′ at)) → Weighing method s e (i + 1) depth next
+        outcome-goes {next} {depth} goes q d =
+            no-fault (addedTo e (walk .sums) (o .probability) target-payoffs) (sym q ∙ fault-is) λ more a.
             next-outcome λ os l right. record {
               sums = some more;
-              held = held;
+              held = goes more a;
               outcomes = os;
               left = l;
-              right = λ k h. right k (omega arith) ∙ sums-go os (done more) q k (omega arith);
+              right = λ k h. right k (omega arith) ∙ sums-go os (done more) a k (omega arith);
             }

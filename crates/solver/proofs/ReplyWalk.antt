@@ -1,11 +1,9 @@
 -- The walk along the child rows of a decision: a row that is no edge, an edge whose target is refused, one that stops or goes on with the best reply, and the end.
-use mathlib.Core.Path.{_≡_, refl, sym, ap, _∙_}
-use mathlib.Core.List.{List, _∷_, reverse}
+use mathlib.Core.Path.{_≡_, sym, ap, _∙_}
+use mathlib.Core.List.{List, _∷_}
 use mathlib.Core.Option.{none, some}
 use Prim.Native.Nat.{ℕ, suc, _+_, _<_, _≤_, max}
 use native.Mathlib.Omega.{arith}
-use lib.ListN.{length, take, length-reverse}
-use lib.Seq.{length-take-le}
 use Rattle.answer.specs.declared.Refusal.{Refusal}
 use Rattle.answer.specs.Answer.{refused, done, _>>=_}
 use Rattle.answer.proofs.AnswerLaws.{bind-assoc}
@@ -16,6 +14,7 @@ use Rattle.game.specs.Edges.{actionEdgeIn, collectFrom}
 use Rattle.game.proofs.Walk.{left-skip, left-keep, left-end}
 use Rattle.sheet.specs.Meaning.{gameOf, Opens}
 use Rattle.sheet.proofs.AcceptedGame.{accepted}
+use Rattle.sheet.proofs.OpeningLaws.{few-nodes}
 use Rattle.child_rows.specs.Links.{NextOf}
 use Rattle.child_rows.proofs.LinkedWalk.{skip-to}
 use Rattle.edges.proofs.LinkedEdges.{no-action}
@@ -24,10 +23,10 @@ use Rattle.backward_induction.specs.Solve.{Reply, Solver, reply, taken, solve}
 use Rattle.backward_induction.specs.Turns.{leading, bestFrom}
 use Rattle.backward_induction.proofs.SolveLaws.{bestFrom-cons, bestFrom-stop, reply-refused, reply-same}
 use Rattle.backward_induction.proofs.Bounds.{solve-sized}
-use Rattle.memo.specs.Memo.{Rows, entry, height, actionCount, solutionOf, Memo, Extends}
+use Rattle.memo.specs.Memo.{Rows, entry, height, solutionAt, Memo, Extends}
 use Rattle.memo.specs.Visits.{SolvedIn, Visits}
 use Rattle.memo.specs.declared.Visit.the-variants.{Solved}
-use Rattle.memo.proofs.MemoLaws.{same-solution, filled-on}
+use Rattle.memo.proofs.MemoLaws.{filled-on}
 use Rattle.turns.specs.declared.Best.{Best}
 use Rattle.turns.specs.declared.Best.the-variants as B
 use Rattle.turns.specs.declared.ReplyTurn.{ReplyTurn}
@@ -40,22 +39,19 @@ kept-on : (s : List ℕ) (m m′ : Rows) → Extends m m′ → (best : Best) �
 kept-on s m m′ e B.None k = tt
 kept-on s m m′ e (B.Reply r) k = filled-on e k
 
-module _ {method : Method} {s : List ℕ} {m m′ : Rows} where
-  same-lead : Memo method s m → Memo method s m′ → Extends m m′ → (best : Best) → KeptIn s m best → leadIn m best ≡ leadIn m′ best
-  same-lead a b e B.None k = refl
-  same-lead a b e (B.Reply r) k = rw (same-solution a b (r .row) k (filled-on e k))
-
 -- what a row that was visited answers, with any depth from its height on
-pub solved-target : {method : Method} {s : List ℕ} (m : Rows) {left e i : ℕ} → Memo method s m → SolvedIn s m left e i → (k : ℕ) → height (entry m i) ≤ k → solve method (gameOf s) k e ≡ done (solutionOf (entry m i))
+pub solved-target : {method : Method} {s : List ℕ} (m : Rows) {left e i : ℕ} → Memo method s m → SolvedIn s m left e i → (k : ℕ) → height (entry m i) ≤ k → solve method (gameOf s) k e ≡ done (solutionAt method s i)
 solved-target m {i = i} memo v k h = rw (v .entity) at (memo .right i (v .filled) .right k h)
 
 -- one edge with the answer of its target
-best-turn : (f : Solver) (e p : ℕ) (m : Rows) (best : Best) (x : ActionEdge) (xs : List ActionEdge) (row : ℕ) (turn : ReplyTurn) → f (x .target) ≡ done (solutionOf (entry m row))
-    → Replied m p best x row turn → bestFrom f e p (leadIn m best) (x ∷ xs) ≡ (turnIn m turn >>= λ lead. bestFrom f e p lead xs)
-best-turn f e p m best x xs row turn h r =
-    bestFrom-cons f p e (leadIn m best) x xs
-    ∙ ap (λ a. a >>= λ y. bestFrom f e p (some (leading (leadIn m best) y)) xs) (reply-same f (λ n. done (solutionOf (entry m row))) p x h)
-    ∙ sym (bind-assoc (reply (λ n. done (solutionOf (entry m row))) p x) (λ y. done (some (leading (leadIn m best) y))) (λ lead. bestFrom f e p lead xs))
+best-turn : (f : Solver) (e p : ℕ) (method : Method) (s : List ℕ) (best : Best) (x : ActionEdge) (xs : List ActionEdge) (row : ℕ) (turn : ReplyTurn) → f (x .target) ≡ done (solutionAt method s row)
+    → Replied method s p best x row turn → bestFrom f e p (leadIn method s best) (x ∷ xs) ≡ (turnIn method s turn >>= λ lead. bestFrom f e p lead xs)
+best-turn f e p method s best x xs row turn h r =
+    let lead = leadIn method s best in
+    let there : Solver = λ n. done (solutionAt method s row) in
+    bestFrom-cons f p e lead x xs
+    ∙ ap (λ a. a >>= λ y. bestFrom f e p (some (leading lead y)) xs) (reply-same f there p x h)
+    ∙ sym (bind-assoc (reply there p x) (λ y. done (some (leading lead y))) (λ lead. bestFrom f e p lead xs))
     ∙ ap (λ a. a >>= λ lead. bestFrom f e p lead xs) (sym (r .right))
 
 module _ {method : Method} {s : List ℕ} {m : Rows} {e p i deepest : ℕ} {best : Best} (walk : Deciding method s m e p i deepest best) where
@@ -65,11 +61,11 @@ module _ {method : Method} {s : List ℕ} {m : Rows} {e p i deepest : ℕ} {best
 
   -- ---- the end
   module _ (end : rowCount s 1 ≤ i) where
-    pub all-replies : (k : ℕ) → deepest ≤ k → solve method (gameOf s) (suc k) e ≡ decided e (leadIn m best)
+    pub all-replies : (k : ℕ) → deepest ≤ k → solve method (gameOf s) (suc k) e ≡ decided e (leadIn method s best)
     unfolding bestFrom
     all-replies k h =
         let e0 = left-end (actionEdgeIn (gameOf s) e) (childRow s) (rowCount s 1) i (walk .edges) (walk .left) end in
-        walk .right k h ∙ ap (λ xs. bestFrom (solve method (gameOf s) k) e p (leadIn m best) xs >>= λ r. done (taken r)) e0
+        walk .right k h ∙ ap (λ xs. bestFrom (solve method (gameOf s) k) e p (leadIn method s best) xs >>= λ r. done (taken r)) e0
 
   module _ (row : i < rowCount s 1) where
     pub row-skips : actionEdgeIn (gameOf s) e (childRow s i) ≡ done none → Deciding method s m e p (i + 1) deepest best
@@ -77,32 +73,30 @@ module _ {method : Method} {s : List ℕ} {m : Rows} {e p i deepest : ℕ} {best
 
     module _ {x : ActionEdge} (edge : actionEdgeIn (gameOf s) e (childRow s i) ≡ done (some x)) where
       next-edge : {P : Type 0} → ((xs : List ActionEdge) → collectFrom (actionEdgeIn (gameOf s) e) (childRow s) (rowCount s 1) (i + 1) ≡ done xs
-          → ((k : ℕ) → deepest ≤ k → solve method (gameOf s) (suc k) e ≡ (bestFrom (solve method (gameOf s) k) e p (leadIn m best) (x ∷ xs) >>= λ r. done (taken r))) → P) → P
+          → ((k : ℕ) → deepest ≤ k → solve method (gameOf s) (suc k) e ≡ (bestFrom (solve method (gameOf s) k) e p (leadIn method s best) (x ∷ xs) >>= λ r. done (taken r))) → P) → P
       next-edge next =
           left-keep (actionEdgeIn (gameOf s) e) (childRow s) (rowCount s 1) i (walk .edges) (walk .left) x row edge
-          λ xs q l. next xs l λ k h. walk .right k h ∙ ap (λ ys. bestFrom (solve method (gameOf s) k) e p (leadIn m best) ys >>= λ r. done (taken r)) q
+          λ xs q l. next xs l λ k h. walk .right k h ∙ ap (λ ys. bestFrom (solve method (gameOf s) k) e p (leadIn method s best) ys >>= λ r. done (taken r)) q
 
       pub target-refused : {k : ℕ} {r : Refusal} → deepest ≤ k → solve method (gameOf s) k (x .target) ≡ refused r → solve method (gameOf s) (suc k) e ≡ refused r
       target-refused {k} {r} h q =
-          next-edge λ xs l right. right k h ∙ ap (λ a. a >>= λ y. done (taken y)) (bestFrom-stop (solve method (gameOf s) k) p e (leadIn m best) x xs r (reply-refused (solve method (gameOf s) k) p x r q))
+          next-edge λ xs l right. right k h ∙ ap (λ a. a >>= λ y. done (taken y)) (bestFrom-stop (solve method (gameOf s) k) p e (leadIn method s best) x xs r (reply-refused (solve method (gameOf s) k) p x r q))
 
       -- ---- the target's answer is in a row of the memo
-      module _ {m′ : Rows} {left at : ℕ} (memo : Memo method s m) (visit : Visits method s m m′ left (x .target) (Solved at)) where
-        turned : {turn : ReplyTurn} → Replied m′ p best x at turn → (xs : List ActionEdge) (k : ℕ) → height (entry m′ at) ≤ k
-            → bestFrom (solve method (gameOf s) k) e p (leadIn m best) (x ∷ xs) ≡ (turnIn m′ turn >>= λ lead. bestFrom (solve method (gameOf s) k) e p lead xs)
-        turned {turn} r xs k h =
-            rw (same-lead memo (visit .memo) (visit .extends) best (walk .kept))
-            (best-turn (solve method (gameOf s) k) e p m′ best x xs at turn (solved-target m′ (visit .memo) (visit .visited) k h) r)
+      module _ {m′ : Rows} {left at : ℕ} (visit : Visits method s m m′ left (x .target) (Solved at)) where
+        turned : {turn : ReplyTurn} → Replied method s p best x at turn → (xs : List ActionEdge) (k : ℕ) → height (entry m′ at) ≤ k
+            → bestFrom (solve method (gameOf s) k) e p (leadIn method s best) (x ∷ xs) ≡ (turnIn method s turn >>= λ lead. bestFrom (solve method (gameOf s) k) e p lead xs)
+        turned {turn} r xs k h = best-turn (solve method (gameOf s) k) e p method s best x xs at turn (solved-target m′ (visit .memo) (visit .visited) k h) r
 
-        pub reply-stops : {r : Refusal} {k : ℕ} → Replied m′ p best x at (Stop r) → deepest ≤ k → left ≤ k → solve method (gameOf s) (suc k) e ≡ refused r
+        pub reply-stops : {r : Refusal} {k : ℕ} → Replied method s p best x at (Stop r) → deepest ≤ k → left ≤ k → solve method (gameOf s) (suc k) e ≡ refused r
         reply-stops {r} {k} t h l =
             let near = visit .visited .near in
             next-edge λ xs _ right. right k h ∙ ap (λ a. a >>= λ y. done (taken y)) (turned t xs k (omega arith))
 
-        pub reply-goes : {next : Best} {depth : ℕ} → Replied m′ p best x at (Go next) → depth ≡ max deepest (height (entry m′ at)) → Deciding method s m′ e p (i + 1) depth next
+        pub reply-goes : {next : Best} {depth : ℕ} → Replied method s p best x at (Go next) → depth ≡ max deepest (height (entry m′ at)) → Deciding method s m′ e p (i + 1) depth next
         reply-goes {next} {depth} t d =
             next-edge λ xs l right. record {
-              kept = t .kept s (kept-on s m m′ (visit .extends) best (walk .kept)) (visit .visited .filled);
+              kept = t .kept m′ (kept-on s m m′ (visit .extends) best (walk .kept)) (visit .visited .filled);
               edges = xs;
               left = l;
               right = λ k h. right k (omega arith) ∙ ap (λ a. a >>= λ y. done (taken y)) (turned t xs k (omega arith));
@@ -110,12 +104,13 @@ module _ {method : Method} {s : List ℕ} {m : Rows} {e p i deepest : ℕ} {best
 
 -- ---- the best reply of all is kept with its label in front
 module _ {method : Method} {s : List ℕ} {m : Rows} (opens : Opens s) (memo : Memo method s m) (e deepest : ℕ) where
-  pub best-extends : (best : Best) → KeptIn s m best → solve method (gameOf s) (suc deepest) e ≡ decided e (leadIn m best) → ExtendableBest m deepest best
-  unfolding taken solutionOf
+  pub best-extends : (best : Best) → KeptIn s m best → solve method (gameOf s) (suc deepest) e ≡ decided e (leadIn method s best) → ExtendableBest m deepest best
+  unfolding taken
   best-extends B.None k h = tt
   best-extends (B.Reply r) k h =
-      let x = entry m (r .row) in
-      let sized = memo .right (r .row) k .sized in
-      let actions = solve-sized method (gameOf s) (accepted s opens) (suc deepest) e (taken (replyIn m r)) h .actions in
-      let n : length (reverse (take (actionCount x) (x .labels))) ≡ actionCount x = length-reverse (take (actionCount x) (x .labels)) ∙ length-take-le (actionCount x) (x .labels) (omega arith) in
-      record { within = memo .within (r .row) (k .row); sized = sized; few = omega arith }
+      let stands = memo .right (r .row) k .stands in
+      let count = stands .tells .action-count in
+      let actions = solve-sized method (gameOf s) (accepted s opens) (suc deepest) e (taken (replyIn method s r)) h .actions in
+      let here = k .row in
+      let few = few-nodes s opens in
+      record { within = memo .within (r .row) (k .row); low = omega arith; sized = stands .sized; few = omega arith }

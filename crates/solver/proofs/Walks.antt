@@ -24,7 +24,6 @@ use Rattle.entering.specs.declared.Entered.{Entered}
 -- the lists are as long as they were
 pub record AsLong (m m′ : Rows) : Type 0 where
   pub heads : length (m′ .heads) ≡ length (m .heads)
-  pub labels : length (m′ .labels) ≡ length (m .labels)
   pub payoffs : length (m′ .payoffs) ≡ length (m .payoffs)
 
 -- n child rows, those before i dealt with, and i one of e's or the end; m₀ is the memo where the walk began
@@ -53,7 +52,7 @@ walk-starts m asks some-depth node rows to =
       deep = some-depth;
       memo = asks .memo;
       extends = λ i h. h;
-      as-long = record { heads = refl; labels = refl; payoffs = refl };
+      as-long = record { heads = refl; payoffs = refl };
     }
 
 pub visits-after : {method : Method} {s : List ℕ} (m m₁ m′ : Rows) {left e : ℕ} {v : Visit} → Extends m m₁ → Visits method s m₁ m′ left e v → Visits method s m m′ left e v
@@ -71,7 +70,7 @@ pub record AnswerRow (m : Rows) (at : ℕ) : Type 0 where
 pub answer-row : {method : Method} {s : List ℕ} (m m′ : Rows) {left e at : ℕ} {v : Visit} → v ≡ Solved at → Visits method s m m′ left e v → AnswerRow m′ at
 answer-row m m′ q visit =
     let there = visited-as m m′ q visit in
-    record { within = there .memo .within _ (there .visited .filled .row); room = there .memo .right _ (there .visited .filled) .sized .payoff-room }
+    record { within = there .memo .within _ (there .visited .filled .row); room = there .memo .right _ (there .visited .filled) .stands .sized .payoff-room }
 
 module _ {method : Method} {s links : List ℕ} {m₀ m : Rows} {row e left n i deepest : ℕ} (walk : Walk method s links m₀ m row e left n i deepest) where
   -- what a visit of a target asks
@@ -126,7 +125,7 @@ module _ {method : Method} {s links : List ℕ} {m₀ m : Rows} {row e left n i 
             deep = omega arith;
             memo = visit .memo;
             extends = λ k h. visit .extends k (walk .extends k h);
-            as-long = record { heads = long .heads ∙ walk .as-long .heads; labels = long .labels ∙ walk .as-long .labels; payoffs = long .payoffs ∙ walk .as-long .payoffs };
+            as-long = record { heads = long .heads ∙ walk .as-long .heads; payoffs = long .payoffs ∙ walk .as-long .payoffs };
           }
 
   module _ (m′ : Rows) {less target : ℕ} {v : Visit} (visit : Visits method s m m′ less target v) where
@@ -134,7 +133,7 @@ module _ {method : Method} {s links : List ℕ} {m₀ m : Rows} {row e left n i 
     walk-refused h = record { memo = visit .memo; extends = λ j k. visit .extends j (walk .extends j k); visited = h }
 
   -- the end: the node's answer is kept
-  pub walk-kept : (m′ : Rows) {v : Visit} (a : Answer Solution) → KeptAs m m′ row (deepest + 1) a v → ((k : ℕ) → deepest ≤ k → solve method (gameOf s) (suc k) e ≡ a) → Visits method s m₀ m′ left e v
+  pub walk-kept : (m′ : Rows) {v : Visit} (a : Answer Solution) → KeptAs method s m m′ row (deepest + 1) a v → ((k : ℕ) → deepest ≤ k → solve method (gameOf s) (suc k) e ≡ a) → Visits method s m₀ m′ left e v
   walk-kept m′ a kept right =
       let deep = walk .deep in
       let near : deepest + 1 ≤ left = omega arith in

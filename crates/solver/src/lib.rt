@@ -1,9 +1,7 @@
 // The solve: backward induction over a sheet, with each node's answer kept so that a shared node is solved once.
 ghost use mathlib.Core.Path.{_≡_};
-ghost use mathlib.Core.List.{reverse};
 ghost use mathlib.Core.Option.{some};
 ghost use Prim.Native.Nat.{_+_, _≤_, max};
-ghost use lib.ListN.{take};
 ghost use Rattle.answer.specs.declared.Refusal.{Refusal};
 ghost use Rattle.answer.specs.Answer.{refused, done};
 ghost use Rattle.answer.specs.Fault.{faultOf};
@@ -12,7 +10,7 @@ ghost use Rattle.sheet.specs.Meaning.{gameOf, Opens};
 ghost use Rattle.backward_induction.specs.Solve.{solve as solution-with};
 ghost use Rattle.backward_induction.specs.Call.{solution};
 ghost use Rattle.backward_induction.specs.declared.Method.the-variants.{ChanceWeighted, Plain};
-ghost use Rattle.memo.specs.Memo.{rows, entry, solutionOf, Sized, Within};
+ghost use Rattle.memo.specs.Memo.{rows, entry, actionCount, Sized, Within, labelsFrom, Along, solutionIn};
 ghost use Rattle.memo.specs.Visits.{Visits};
 ghost use Rattle.solver.specs.Held.{padded, held, heldFor};
 ghost use Rattle.turns.specs.declared.Best.the-variants as Bests;
@@ -46,24 +44,22 @@ pub struct Solved {
 fn solve_node(
     sheet: &[u8],
     links: &[u32],
-    heads: &mut [[u32; 5]],
-    labels: &mut [[u32; 64]],
+    heads: &mut [[u32; 7]],
     payoffs: &mut [[f64; 8]],
     method: Method,
     entity: u32,
     left: usize,
 ) -> Visit
-    requires { ⌜ Asks method (now sheet) (now links) (rows (now heads) (now labels) (now payoffs)) left ⌝ }
-    ensures { λ v. ⌜ Visits method (now (sheet .entry)) (rows (now (heads .entry)) (now (labels .entry)) (now (payoffs .entry))) (rows (now (heads .exit)) (now (labels .exit)) (now (payoffs .exit))) left entity v ⌝ }
+    requires { ⌜ Asks method (now sheet) (now links) (rows (now heads) (now payoffs)) left ⌝ }
+    ensures { λ v. ⌜ Visits method (now (sheet .entry)) (rows (now (heads .entry)) (now (payoffs .entry))) (rows (now (heads .exit)) (now (payoffs .exit))) left entity v ⌝ }
 {
-    let entered = entering::enter(sheet, links, heads, labels, payoffs, method, entity, left);
+    let entered = entering::enter(sheet, links, heads, payoffs, method, entity, left);
     match entered {
         Entered::Done(v) => v,
         Entered::Decision(row, player) => solve_decision(
             sheet,
             links,
             heads,
-            labels,
             payoffs,
             method,
             entity,
@@ -75,7 +71,6 @@ fn solve_node(
             sheet,
             links,
             heads,
-            labels,
             payoffs,
             method,
             entity,
@@ -89,8 +84,7 @@ fn solve_node(
 fn solve_decision(
     sheet: &[u8],
     links: &[u32],
-    heads: &mut [[u32; 5]],
-    labels: &mut [[u32; 64]],
+    heads: &mut [[u32; 7]],
     payoffs: &mut [[f64; 8]],
     method: Method,
     entity: u32,
@@ -98,8 +92,8 @@ fn solve_decision(
     player: u32,
     left: usize,
 ) -> Visit
-    requires { ⌜ Asks method (now sheet) (now links) (rows (now heads) (now labels) (now payoffs)) (left + 1) × NodeAt (now sheet) row entity × Deciding method (now sheet) (rows (now heads) (now labels) (now payoffs)) entity player 0 0 Bests.None ⌝ }
-    ensures { λ v. ⌜ Visits method (now (sheet .entry)) (rows (now (heads .entry)) (now (labels .entry)) (now (payoffs .entry))) (rows (now (heads .exit)) (now (labels .exit)) (now (payoffs .exit))) (left + 1) entity v ⌝ }
+    requires { ⌜ Asks method (now sheet) (now links) (rows (now heads) (now payoffs)) (left + 1) × NodeAt (now sheet) row entity × Deciding method (now sheet) (rows (now heads) (now payoffs)) entity player 0 0 Bests.None ⌝ }
+    ensures { λ v. ⌜ Visits method (now (sheet .entry)) (rows (now (heads .entry)) (now (payoffs .entry))) (rows (now (heads .exit)) (now (payoffs .exit))) (left + 1) entity v ⌝ }
 {
     let n = layout::row_count(sheet, 1);
     let mut best = Best::None;
@@ -112,7 +106,7 @@ fn solve_decision(
             continue;
         };
         let target = edge.target;
-        let v = solve_node(sheet, links, heads, labels, payoffs, method, target, left);
+        let v = solve_node(sheet, links, heads, payoffs, method, target, left);
         let Visit::Solved(at) = v else {
             return v;
         };
@@ -125,23 +119,22 @@ fn solve_decision(
         }
         deepest = memo::deeper(heads, deepest, at);
     }
-    turns::store_best(heads, labels, payoffs, entity, row, best, deepest)
+    turns::store_best(heads, payoffs, entity, row, best, deepest)
 }
 
 // A chance node solves its outcomes.
 fn solve_chance(
     sheet: &[u8],
     links: &[u32],
-    heads: &mut [[u32; 5]],
-    labels: &mut [[u32; 64]],
+    heads: &mut [[u32; 7]],
     payoffs: &mut [[f64; 8]],
     method: Method,
     entity: u32,
     row: usize,
     left: usize,
 ) -> Visit
-    requires { ⌜ Asks method (now sheet) (now links) (rows (now heads) (now labels) (now payoffs)) (left + 1) × NodeAt (now sheet) row entity × ToWeigh method (now sheet) entity ⌝ }
-    ensures { λ v. ⌜ Visits method (now (sheet .entry)) (rows (now (heads .entry)) (now (labels .entry)) (now (payoffs .entry))) (rows (now (heads .exit)) (now (labels .exit)) (now (payoffs .exit))) (left + 1) entity v ⌝ }
+    requires { ⌜ Asks method (now sheet) (now links) (rows (now heads) (now payoffs)) (left + 1) × NodeAt (now sheet) row entity × ToWeigh method (now sheet) entity ⌝ }
+    ensures { λ v. ⌜ Visits method (now (sheet .entry)) (rows (now (heads .entry)) (now (payoffs .entry))) (rows (now (heads .exit)) (now (payoffs .exit))) (left + 1) entity v ⌝ }
 {
     let n = layout::row_count(sheet, 1);
     let mut sums = turns::no_sums();
@@ -154,20 +147,18 @@ fn solve_chance(
             continue;
         };
         let target = outcome.target;
-        let v = solve_node(sheet, links, heads, labels, payoffs, method, target, left);
+        let v = solve_node(sheet, links, heads, payoffs, method, target, left);
         let Visit::Solved(at) = v else {
             return v;
         };
-        let turn = turns::outcome_to(heads, payoffs, entity, sums, outcome.probability, at);
-        let fault = turn.fault;
+        let fault = turns::outcome_fault(heads, entity, sums.started, sums.count, at);
         if let Check::Refused(r) = fault {
             return Visit::Refused(r);
         }
-        let next = turn.sums;
-        sums = next;
+        sums = turns::outcome_to(heads, payoffs, sums, outcome.probability, at);
         deepest = memo::deeper(heads, deepest, at);
     }
-    turns::store_sums(heads, labels, payoffs, entity, row, sums, deepest)
+    turns::store_sums(heads, payoffs, entity, row, sums, deepest)
 }
 
 // A refusal as the whole answer.
@@ -184,27 +175,29 @@ fn refused_answer(fault: Check) -> Solved
     }
 }
 
-// The actions of a row, first to last.
-fn actions_of(names: [u32; 64], count: usize) -> [u32; 64]
-    requires { ⌜ count ≤ 64 ⌝ }
-    ensures { λ r. ⌜ r ≡ padded 64 0 (reverse (take count names)) ⌝ }
+// The first so many actions of a row, first to last: its own, and then those of the row that it leads to.
+fn actions_of(heads: &[[u32; 7]], row: usize, count: usize) -> [u32; 64]
+    requires { ⌜ (count ≤ 64) × Along (now heads) count row ⌝ }
+    ensures { λ r. ⌜ r ≡ padded 64 0 (labelsFrom (now (heads .entry)) count row) ⌝ }
 {
     let mut out = [0u32; 64];
+    let mut at = row;
     let mut j = 0;
     while j < count {
-        out[j] = names[count - 1 - j];
+        let head = heads[at];
+        out[j] = head[5];
+        at = memo::wide(head[6]);
         j += 1;
     }
     out
 }
 
 // The answer in a row as a solution.
-fn solution_at(heads: &[[u32; 5]], labels: &[[u32; 64]], payoffs: &[[f64; 8]], row: usize) -> Solved
-    requires { ⌜ Within (rows (now heads) (now labels) (now payoffs)) row × Sized (entry (rows (now heads) (now labels) (now payoffs)) row) ⌝ }
-    ensures { λ r. ⌜ held r ≡ heldFor (done (solutionOf (entry (rows (now (heads .entry)) (now (labels .entry)) (now (payoffs .entry))) row))) ⌝ }
+fn solution_at(heads: &[[u32; 7]], payoffs: &[[f64; 8]], row: usize) -> Solved
+    requires { ⌜ Within (rows (now heads) (now payoffs)) row × Sized (entry (rows (now heads) (now payoffs)) row) × Along (now heads) (actionCount (entry (rows (now heads) (now payoffs)) row)) row ⌝ }
+    ensures { λ r. ⌜ held r ≡ heldFor (done (solutionIn (rows (now (heads .entry)) (now (payoffs .entry))) row)) ⌝ }
 {
     let head = heads[row];
-    let names = labels[row];
     let values = payoffs[row];
     let count = memo::wide(head[3]);
     let ending = if head[1] == 0 {
@@ -216,7 +209,7 @@ fn solution_at(heads: &[[u32; 5]], labels: &[[u32; 64]], payoffs: &[[f64; 8]], r
         refusal: Check::Passed,
         ending,
         action_count: count,
-        labels: actions_of(names, count),
+        labels: actions_of(heads, row, count),
         payoff_count: memo::wide(head[4]),
         payoffs: values,
     }
@@ -226,21 +219,20 @@ fn solution_at(heads: &[[u32; 5]], labels: &[[u32; 64]], payoffs: &[[f64; 8]], r
 fn solve_in(
     sheet: &[u8],
     links: &mut [u32],
-    heads: &mut [[u32; 5]],
-    labels: &mut [[u32; 64]],
+    heads: &mut [[u32; 7]],
     payoffs: &mut [[f64; 8]],
     method: Method,
     start: u32,
     depth: usize,
 ) -> Solved
-    requires { ⌜ Opens (now sheet) × (depth ≤ 64) × Lent method (now sheet) (now links) (rows (now heads) (now labels) (now payoffs)) ⌝ }
+    requires { ⌜ Opens (now sheet) × (depth ≤ 64) × Lent method (now sheet) (now links) (rows (now heads) (now payoffs)) ⌝ }
     ensures { λ r. ⌜ held r ≡ heldFor (solution-with method (gameOf (now (sheet .entry))) depth start) ⌝ }
 {
     child_rows::link(sheet, links);
-    let v = solve_node(sheet, links, heads, labels, payoffs, method, start, depth);
+    let v = solve_node(sheet, links, heads, payoffs, method, start, depth);
     match v {
         Visit::Refused(r) => refused_answer(Check::Refused(r)),
-        Visit::Solved(row) => solution_at(heads, labels, payoffs, row),
+        Visit::Solved(row) => solution_at(heads, payoffs, row),
     }
 }
 
@@ -250,14 +242,12 @@ fn solve_32(sheet: &[u8], method: Method, start: u32, depth: usize) -> Solved
     ensures { λ r. ⌜ held r ≡ heldFor (solution-with method (gameOf (now (sheet .entry))) depth start) ⌝ }
 {
     let mut links = [0u32; 64];
-    let mut heads = [[0u32; 5]; 32];
-    let mut labels = [[0u32; 64]; 32];
+    let mut heads = [[0u32; 7]; 32];
     let mut payoffs = [[0.0f64; 8]; 32];
     solve_in(
         sheet,
         &mut links,
         &mut heads,
-        &mut labels,
         &mut payoffs,
         method,
         start,
@@ -271,14 +261,12 @@ fn solve_128(sheet: &[u8], method: Method, start: u32, depth: usize) -> Solved
     ensures { λ r. ⌜ held r ≡ heldFor (solution-with method (gameOf (now (sheet .entry))) depth start) ⌝ }
 {
     let mut links = [0u32; 256];
-    let mut heads = [[0u32; 5]; 128];
-    let mut labels = [[0u32; 64]; 128];
+    let mut heads = [[0u32; 7]; 128];
     let mut payoffs = [[0.0f64; 8]; 128];
     solve_in(
         sheet,
         &mut links,
         &mut heads,
-        &mut labels,
         &mut payoffs,
         method,
         start,
@@ -292,14 +280,12 @@ fn solve_1024(sheet: &[u8], method: Method, start: u32, depth: usize) -> Solved
     ensures { λ r. ⌜ held r ≡ heldFor (solution-with method (gameOf (now (sheet .entry))) depth start) ⌝ }
 {
     let mut links = [0u32; 2048];
-    let mut heads = [[0u32; 5]; 1024];
-    let mut labels = [[0u32; 64]; 1024];
+    let mut heads = [[0u32; 7]; 1024];
     let mut payoffs = [[0.0f64; 8]; 1024];
     solve_in(
         sheet,
         &mut links,
         &mut heads,
-        &mut labels,
         &mut payoffs,
         method,
         start,

@@ -1,52 +1,47 @@
--- The answer of a decision as it is kept: the winner's, with its label put in front by one store at the end of the labels.
-use mathlib.Core.Path.{_≡_, refl, ap, _∙_}
-use mathlib.Core.List.{List, [], _∷_, reverse, reverse-append}
+-- The answer of a decision as it is kept: the winner's, with its label in front and its row to go on from.
+use mathlib.Core.Path.{_≡_, refl}
+use mathlib.Core.List.{List, [], _∷_}
 use Prim.Native.Nat.{ℕ, _+_, _<_}
 use native.Mathlib.Omega.{arith}
-use native.Mathlib.Numerals.{add-one}
-use lib.ListN.{length, getD, take, set, length-set}
-use lib.Seq.{take-suc-set}
+use lib.ListN.{getD}
+use Rattle.backward_induction.specs.declared.Method.{Method}
 use Rattle.backward_induction.specs.Solve.{taken}
-use Rattle.memo.specs.Memo.{Entry, actionCount, payoffCount, solutionOf, Sized, Rows, entry, stored}
+use Rattle.memo.specs.Memo.{Entry, actionCount, payoffCount, Sized, Rows, entry, stored, Filled, Memo}
 use Rattle.memo.specs.Visits.{Keeps}
 use Rattle.turns.specs.declared.Reply.{Reply as Candidate}
 use Rattle.turns.specs.Replies.{replyIn, Extendable}
 
--- the labels stand last first
-reverse-set : (labels : List ℕ) (n label : ℕ) → n < length labels → reverse (take (n + 1) (set labels n label)) ≡ label ∷ reverse (take n labels)
-reverse-set labels n label h = rw (add-one, take-suc-set labels n label h) (reverse-append (take n labels) (label ∷ []))
-
--- an answer with one action more, at the height depth + 1
+-- an answer with one action more, at the height depth + 1, which leads to the row at
 abbrev pub pushed : ℕ → ℕ → ℕ → Entry → Entry
-pushed depth count label x =
+pushed depth label at x =
     record {
-      head = (depth + 1) ∷ getD (x .head) 1 0 ∷ getD (x .head) 2 0 ∷ (count + 1) ∷ payoffCount x ∷ [];
-      labels = set (x .labels) count label;
+      head = (depth + 1) ∷ getD (x .head) 1 0 ∷ getD (x .head) 2 0 ∷ (actionCount x + 1) ∷ payoffCount x ∷ label ∷ at ∷ [];
       payoffs = x .payoffs;
     }
 
-module _ (depth label : ℕ) (x : Entry) (low : depth < 64) (sized : Sized x) (few : actionCount x < depth) where
-  pushed-sized : Sized (pushed depth (actionCount x) label x)
-  unfolding solutionOf
-  pushed-sized = record {
-    low = omega arith;
-    few-actions = omega arith;
-    label-room = length-set (x .labels) (actionCount x) label ∙ sized .label-room;
-    payoff-room = record { few = sized .payoff-room .few; room = sized .payoff-room .room };
-    padding = sized .padding;
-  }
+pushed-sized : (depth label at : ℕ) (x : Entry) → depth < 64 → Sized x → actionCount x < depth → Sized (pushed depth label at x)
+pushed-sized depth label at x low sized few =
+    record {
+      low = omega arith;
+      few-actions = omega arith;
+      payoff-room = record { few = sized .payoff-room .few; room = sized .payoff-room .room };
+      padding = sized .padding;
+    }
 
 module _ {m m′ : Rows} {row depth : ℕ} {w : Candidate} (low : depth < 64) (room : Extendable m depth w) where
-  pub best-keeps : (count : ℕ) → count ≡ actionCount (entry m (w .row)) → m′ ≡ stored m row (pushed depth count (w .edge .label) (entry m (w .row)))
-      → Keeps m m′ row (depth + 1) (taken (replyIn m w))
-  unfolding solutionOf taken
-  best-keeps count q e =
+  pub best-keeps : m′ ≡ stored m row (pushed depth (w .edge .label) (w .row) (entry m (w .row)))
+      → (method : Method) (s : List ℕ) → Memo method s m → Filled s m (w .row) → Keeps method s m m′ row (depth + 1) (taken (replyIn method s w))
+  unfolding taken
+  best-keeps e method s memo f =
       let x = entry m (w .row) in
-      let sized = room .sized in
+      let t = memo .right (w .row) f .stands .tells in
       record {
-        kept = pushed depth (actionCount x) (w .edge .label) x;
-        sized = pushed-sized depth (w .edge .label) x low sized (room .few);
+        kept = pushed depth (w .edge .label) (w .row) x;
+        stands = record {
+          sized = pushed-sized depth (w .edge .label) (w .row) x low (room .sized) (room .few);
+          tells = record { terminal = t .terminal; action-count = let n = t .action-count in omega arith; payoffs = t .payoffs };
+          leads = λ h. record { filled = f; actions = refl };
+        };
         high = refl;
-        solution = rw (reverse-set (x .labels) (actionCount x) (w .edge .label) (omega arith));
-        memo = e ∙ ap (λ n. stored m row (pushed depth n (w .edge .label) x)) q;
+        memo = e;
       }

@@ -14,10 +14,11 @@ use Rattle.number.specs.Meaning.{meaning}
 use Rattle.answer.specs.Refusals.{missingPlayerPayoff}
 use Rattle.answer.specs.Answer.{done}
 use Rattle.game.specs.declared.ActionEdge.{ActionEdge}
+use Rattle.backward_induction.specs.declared.Method.{Method}
 use Rattle.backward_induction.specs.Solve.{Reply, better}
 use Rattle.backward_induction.specs.Turns.{leading}
 use Rattle.backward_induction.proofs.SolveLaws.{reply-lacks, reply-done}
-use Rattle.memo.specs.Memo.{Rows, entry, ending, payoffCount, solutionOf, Filled}
+use Rattle.memo.specs.Memo.{Entry, Rows, ending, payoffCount, payoffsOf, Tells, solutionAt, Filled}
 use Rattle.turns.specs.declared.Reply.{Reply as Candidate}
 use Rattle.turns.specs.declared.Best.{Best}
 use Rattle.turns.specs.declared.Best.the-variants as B
@@ -45,43 +46,42 @@ module _ (named terminal target : ℕ) where
   names-terminal h = rw (ne-eqb named 0 h)
 
 -- ---- the better of two
-module _ (m : Rows) where
-  lead-better : (best : Best) (r : Candidate) → leadIn m (betterOf best r) ≡ some (leading (leadIn m best) (replyIn m r))
+kept-better : (m : Rows) (s : List ℕ) (best : Best) (r : Candidate) → KeptIn s m best → Filled s m (r .row) → KeptIn s m (betterOf best r)
+unfolding betterOf
+kept-better m s B.None r k f = f
+kept-better m s (B.Reply kept) r k f = go (less (meaning (kept .payoff)) (meaning (r .payoff)))
+  where
+    go : (b : Bool) → KeptIn s m (cond b (B.Reply r) (B.Reply kept))
+    go true = f
+    go false = k
+
+module _ (method : Method) (s : List ℕ) where
+  lead-better : (best : Best) (r : Candidate) → leadIn method s (betterOf best r) ≡ some (leading (leadIn method s best) (replyIn method s r))
   unfolding betterOf better
   lead-better B.None r = refl
   lead-better (B.Reply kept) r = go (less (meaning (kept .payoff)) (meaning (r .payoff)))
     where
-      go : (b : Bool) → leadIn m (cond b (B.Reply r) (B.Reply kept)) ≡ some (cond b (replyIn m r) (replyIn m kept))
+      go : (b : Bool) → leadIn method s (cond b (B.Reply r) (B.Reply kept)) ≡ some (cond b (replyIn method s r) (replyIn method s kept))
       go true = refl
       go false = refl
 
-  kept-better : (s : List ℕ) (best : Best) (r : Candidate) → KeptIn s m best → Filled s m (r .row) → KeptIn s m (betterOf best r)
-  unfolding betterOf
-  kept-better s B.None r k f = f
-  kept-better s (B.Reply kept) r k f = go (less (meaning (kept .payoff)) (meaning (r .payoff)))
-    where
-      go : (b : Bool) → KeptIn s m (cond b (B.Reply r) (B.Reply kept))
-      go true = f
-      go false = k
-
-  module _ (player : ℕ) (best : Best) (x : ActionEdge) (row : ℕ) where
+  module _ (player : ℕ) (best : Best) (x : ActionEdge) (row : ℕ) (there : Entry) (tells : Tells there (solutionAt method s row)) where
     -- 18 names the terminal of the answer, or the target where it has none
-    pub turn-lacks : (e : ℕ) → payoffCount (entry m row) ≤ player → e ≡ Option·getD (ending (entry m row)) (x .target)
-        → Replied m player best x row (Stop (missingPlayerPayoff e player))
-    unfolding solutionOf
+    pub turn-lacks : (e : ℕ) → payoffCount there ≤ player → e ≡ Option·getD (ending there) (x .target) → Replied method s player best x row (Stop (missingPlayerPayoff e player))
     turn-lacks e h q =
-        let none-there : getElem? (solutionOf (entry m row) .payoffs) player ≡ none = past-end (solutionOf (entry m row) .payoffs) player (simp (length-map, length-take) (omega arith)) in
+        let y = solutionAt method s row in
+        let none-there : getElem? (y .payoffs) player ≡ none = rw (tells .payoffs) (past-end (payoffsOf (there .head) (there .payoffs)) player (simp (length-map, length-take) (omega arith))) in
         record {
-          right = rw (reply-lacks (λ n. done (solutionOf (entry m row))) player x (solutionOf (entry m row)) refl none-there, q);
-          kept = λ s k f. tt;
+          right = rw (reply-lacks (λ n. done y) player x y refl none-there, q, tells .terminal);
+          kept = λ m k f. tt;
         }
 
-    pub turn-goes : (d v : Float) (b : Best) → player < payoffCount (entry m row) → player < length (entry m row .payoffs) → v ≡ getD (entry m row .payoffs) player d
-        → b ≡ betterOf best (record { edge = x; row = row; payoff = v }) → Replied m player best x row (Go b)
-    unfolding solutionOf
+    pub turn-goes : (d v : Float) (b : Best) → player < payoffCount there → player < length (there .payoffs) → v ≡ getD (there .payoffs) player d
+        → b ≡ betterOf best (record { edge = x; row = row; payoff = v }) → Replied method s player best x row (Go b)
     turn-goes d v b h k ev eb =
-        let there : getElem? (solutionOf (entry m row) .payoffs) player ≡ some (meaning v) = element meaning (payoffCount (entry m row)) (entry m row .payoffs) player d h k ∙ ap (λ u. some (meaning u)) (sym ev) in
+        let y = solutionAt method s row in
+        let at-player : getElem? (y .payoffs) player ≡ some (meaning v) = rw (tells .payoffs) (element meaning (payoffCount there) (there .payoffs) player d h k ∙ ap (λ u. some (meaning u)) (sym ev)) in
         rw eb (record {
-          right = rw (reply-done (λ n. done (solutionOf (entry m row))) player x (solutionOf (entry m row)) (meaning v) refl there, lead-better best (record { edge = x; row = row; payoff = v }));
-          kept = λ s kept f. kept-better s best (record { edge = x; row = row; payoff = v }) kept f;
+          right = rw (reply-done (λ n. done y) player x y (meaning v) refl at-player, lead-better best (record { edge = x; row = row; payoff = v }));
+          kept = λ m kept f. kept-better m s best (record { edge = x; row = row; payoff = v }) kept f;
         })

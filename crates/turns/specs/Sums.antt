@@ -1,19 +1,19 @@
 -- The weighted sums of a chance node as the code holds them. Definitions only.
 use Prim.Native.Nat.{ℕ, _-_, _≤_}
 use mathlib.Core.Path.{_≡_}
-use mathlib.Core.Bool.{Bool, true, false}
+use mathlib.Core.Bool.{Bool, true, false, cond}
 use mathlib.Core.List.{List, [], map, List·Memᴰ}
 use mathlib.Core.Option.{Option, none, some}
 use lib.ListN.{length, take, drop, replicate}
+use lib.Dec.{eqb}
 use Rattle.number.specs.Number.{Number, finite}
 use Rattle.number.specs.Answers.{finiteOnly, weighted}
-use Rattle.answer.specs.Fault.{faultOf}
-use Rattle.answer.specs.Answer.{Answer, refused, done, _>>=_, orRefuse}
-use Rattle.answer.specs.Refusals.{noOutgoingChanceOutcomes}
+use Rattle.answer.specs.Fault.{Fault}
+use Rattle.answer.specs.Answer.{Answer, done, _>>=_, orRefuse}
+use Rattle.answer.specs.Refusals.{inconsistentChancePayoffCount, noOutgoingChanceOutcomes}
 use Rattle.backward_induction.specs.Solve.{Solution, inRange}
 use Rattle.turns.specs.declared.Sum.{Sum}
 use Rattle.turns.specs.declared.Sums.{Sums}
-use Rattle.turns.specs.declared.SumsTurn.{SumsTurn}
 
 -- the sums that the code holds, each a number or out of range
 abbrev pub cell : Sum → Option Number
@@ -36,10 +36,9 @@ pub record Holds (w : Sums) (sums : Option (List Number)) : Type 0 where
   pub sized : Sized w
   pub stand : StandFor w sums
 
--- one outcome more: a refusal, or the sums then
-abbrev pub TurnIs : SumsTurn → Answer (List Number) → Type 0
-TurnIs t (refused r) = faultOf (t .fault) ≡ some r
-TurnIs t (done more) = (faultOf (t .fault) ≡ none) × Holds (t .sums) (some more)
+-- 19 where an outcome has k payoffs and those before it had n, if there are any
+abbrev pub countFault : ℕ → Bool → ℕ → ℕ → Fault
+countFault e started n k = cond started (cond (eqb k n) none (some (inconsistentChancePayoffCount e n k))) none
 
 -- all sums are in range, and are the first of these numbers, after which each is 0; or one is not
 abbrev pub SettledAs : Bool → List (Option Number) → List Number → Type 0

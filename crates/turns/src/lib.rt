@@ -5,15 +5,18 @@ ghost use mathlib.Core.List.{List, [], map, zipWith};
 ghost use mathlib.Core.Option.{Option, none, some};
 ghost use Prim.Native.Nat.{ℕ, _+_, _<_, _≤_};
 ghost use lib.ListN.{length, getD, take};
+ghost use Rattle.answer.specs.Answer.{done};
+ghost use Rattle.answer.specs.Fault.{faultOf};
 ghost use Rattle.number.specs.Number.{Number};
 ghost use Rattle.number.specs.Meaning.{meaning};
 ghost use Rattle.number.specs.Answers.{plusProduct};
 ghost use Rattle.backward_induction.specs.Solve.{taken, products};
 ghost use Rattle.backward_induction.specs.Turns.{addedTo};
-ghost use Rattle.memo.specs.Memo.{rows, payoffsOf, PayoffRoom, Within};
+ghost use Rattle.backward_induction.specs.declared.Method.{Method};
+ghost use Rattle.memo.specs.Memo.{rows, entry, payoffsOf, PayoffRoom, Within, Filled, Memo, Tells, solutionAt};
 ghost use Rattle.memo.specs.Visits.{Keeps, KeptAs};
-ghost use Rattle.turns.specs.Replies.{replyIn, leadIn, decided, betterOf, Replied, Extendable, ExtendableBest};
-ghost use Rattle.turns.specs.Sums.{weighedUp, cells, Sized, Holds, TurnIs, SettledAs};
+ghost use Rattle.turns.specs.Replies.{replyIn, leadIn, decided, betterOf, KeptIn, Replied, Extendable, ExtendableBest};
+ghost use Rattle.turns.specs.Sums.{weighedUp, cells, Sized, Holds, countFault, SettledAs};
 use answer::Check;
 use answer::Refusal;
 use game::ActionEdge;
@@ -49,11 +52,6 @@ pub struct Sums {
     pub sums: [Sum; 8],
 }
 
-pub struct SumsTurn {
-    pub fault: Check,
-    pub sums: Sums,
-}
-
 // The sums as payoffs, and whether all are in range.
 pub struct Settled {
     pub in_range: bool,
@@ -75,7 +73,7 @@ fn better(best: Best, reply: Reply) -> Best
 
 // The better of the best reply so far and the reply of an edge, whose target's answer is in a row: 18 where the mover has no payoff there.
 pub fn reply_to(
-    heads: &[[u32; 5]],
+    heads: &[[u32; 7]],
     payoffs: &[[f64; 8]],
     player: u32,
     best: Best,
@@ -83,7 +81,7 @@ pub fn reply_to(
     row: usize,
 ) -> ReplyTurn
     requires { ⌜ (row < length (now heads)) × (row < length (now payoffs)) × PayoffRoom (getD (now heads) row []) (getD (now payoffs) row []) ⌝ }
-    ensures { λ r. ⌜ ((labels : List (List ℕ)) → Replied (rows (now (heads .entry)) labels (now (payoffs .entry))) player best edge row r) ⌝ }
+    ensures { λ r. ⌜ ((method : Method) (s : List ℕ) → Tells (entry (rows (now (heads .entry)) (now (payoffs .entry))) row) (solutionAt method s row) → Replied method s player best edge row r) ⌝ }
 {
     let head = heads[row];
     if head[4] <= player {
@@ -96,57 +94,53 @@ pub fn reply_to(
             d: 0,
         });
     }
-    let values = payoffs[row];
-    let payoff = values[player as usize];
+    let payoff = payoffs[row][player as usize];
     ReplyTurn::Go(better(best, Reply { edge, row, payoff }))
 }
 
-// Keeps the winner's answer with its label in front.
+// Keeps the winner's answer with one action in front: its label, and the winner's row.
 fn store_winner(
-    heads: &mut [[u32; 5]],
-    labels: &mut [[u32; 64]],
+    heads: &mut [[u32; 7]],
     payoffs: &mut [[f64; 8]],
     row: usize,
     winner: Reply,
     deepest: usize,
 )
-    requires { ⌜ Within (rows (now heads) (now labels) (now payoffs)) row × (deepest < 64) × Extendable (rows (now heads) (now labels) (now payoffs)) deepest winner ⌝ }
-    ensures { λ _. ⌜ Keeps (rows (now (heads .entry)) (now (labels .entry)) (now (payoffs .entry))) (rows (now (heads .exit)) (now (labels .exit)) (now (payoffs .exit))) row (deepest + 1) (taken (replyIn (rows (now (heads .entry)) (now (labels .entry)) (now (payoffs .entry))) winner)) ⌝ }
+    requires { ⌜ Within (rows (now heads) (now payoffs)) row × (deepest < 64) × Extendable (rows (now heads) (now payoffs)) deepest winner ⌝ }
+    ensures { λ _. ⌜ ((method : Method) (s : List ℕ) → Memo method s (rows (now (heads .entry)) (now (payoffs .entry))) → Filled s (rows (now (heads .entry)) (now (payoffs .entry))) (winner .row) → Keeps method s (rows (now (heads .entry)) (now (payoffs .entry))) (rows (now (heads .exit)) (now (payoffs .exit))) row (deepest + 1) (taken (replyIn method s winner))) ⌝ }
 {
     let from = winner.row;
     let old = heads[from];
-    let mut names = labels[from];
     let values = payoffs[from];
     let edge = winner.edge;
-    let count = memo::wide(old[3]);
-    names[count] = edge.label;
     let head = [
         (deepest + 1) as u32,
         old[1],
         old[2],
-        (count + 1) as u32,
+        old[3] + 1,
         old[4],
+        edge.label,
+        from as u32,
     ];
-    memo::store(heads, labels, payoffs, row, head, names, values);
+    memo::store(heads, payoffs, row, head, values);
 }
 
 // Keeps the answer of a decision: 16 where it has no reply, else the winner's.
 pub fn store_best(
-    heads: &mut [[u32; 5]],
-    labels: &mut [[u32; 64]],
+    heads: &mut [[u32; 7]],
     payoffs: &mut [[f64; 8]],
     entity: u32,
     row: usize,
     best: Best,
     deepest: usize,
 ) -> Visit
-    requires { ⌜ Within (rows (now heads) (now labels) (now payoffs)) row × (deepest < 64) × ExtendableBest (rows (now heads) (now labels) (now payoffs)) deepest best ⌝ }
-    ensures { λ v. ⌜ KeptAs (rows (now (heads .entry)) (now (labels .entry)) (now (payoffs .entry))) (rows (now (heads .exit)) (now (labels .exit)) (now (payoffs .exit))) row (deepest + 1) (decided entity (leadIn (rows (now (heads .entry)) (now (labels .entry)) (now (payoffs .entry))) best)) v ⌝ }
+    requires { ⌜ Within (rows (now heads) (now payoffs)) row × (deepest < 64) × ExtendableBest (rows (now heads) (now payoffs)) deepest best ⌝ }
+    ensures { λ v. ⌜ ((method : Method) (s : List ℕ) → Memo method s (rows (now (heads .entry)) (now (payoffs .entry))) → KeptIn s (rows (now (heads .entry)) (now (payoffs .entry))) best → KeptAs method s (rows (now (heads .entry)) (now (payoffs .entry))) (rows (now (heads .exit)) (now (payoffs .exit))) row (deepest + 1) (decided entity (leadIn method s best)) v) ⌝ }
 {
     let Best::Reply(winner) = best else {
         return memo::refused(16, entity as u64);
     };
-    store_winner(heads, labels, payoffs, row, winner, deepest);
+    store_winner(heads, payoffs, row, winner, deepest);
     Visit::Solved(row)
 }
 
@@ -208,38 +202,45 @@ fn more_products(before: Sums, probability: f64, values: [f64; 8]) -> Sums
     }
 }
 
-// One more outcome's products on the sums so far: 19 where its payoffs are not as many.
-pub fn outcome_to(
-    heads: &[[u32; 5]],
-    payoffs: &[[f64; 8]],
+// 19 where the payoffs of an outcome, whose target's answer is in a row, are not as many as those before it.
+pub fn outcome_fault(
+    heads: &[[u32; 7]],
     entity: u32,
+    started: bool,
+    expected: usize,
+    row: usize,
+) -> Check
+    requires { ⌜ row < length (now heads) ⌝ }
+    ensures { λ r. ⌜ faultOf r ≡ countFault entity started expected (getD (getD (now (heads .entry)) row []) 4 0) ⌝ }
+{
+    let head = heads[row];
+    let count = memo::wide(head[4]);
+    if !started {
+        return Check::Passed;
+    }
+    if count == expected {
+        return Check::Passed;
+    }
+    answer::refuse(19, entity as u64, expected as u64, count as u64, 0)
+}
+
+// The sums with such an outcome's products added, where that is no fault.
+pub fn outcome_to(
+    heads: &[[u32; 7]],
+    payoffs: &[[f64; 8]],
     sums: Sums,
     probability: f64,
     row: usize,
-) -> SumsTurn
+) -> Sums
     requires { ⌜ (row < length (now heads)) × (row < length (now payoffs)) × PayoffRoom (getD (now heads) row []) (getD (now payoffs) row []) × Sized sums ⌝ }
-    ensures { λ r. ⌜ ((sofar : Option (List Number)) → Holds sums sofar → TurnIs r (addedTo entity sofar (meaning probability) (payoffsOf (getD (now (heads .entry)) row []) (getD (now (payoffs .entry)) row [])))) ⌝ }
+    ensures { λ r. ⌜ ((e : ℕ) (sofar : Option (List Number)) (more : List Number) → Holds sums sofar → addedTo e sofar (meaning probability) (payoffsOf (getD (now (heads .entry)) row []) (getD (now (payoffs .entry)) row [])) ≡ done more → Holds r (some more)) ⌝ }
 {
-    let head = heads[row];
     let values = payoffs[row];
-    let count = memo::wide(head[4]);
-    if !sums.started {
-        return SumsTurn {
-            fault: Check::Passed,
-            sums: first_products(probability, values, count),
-        };
+    if sums.started {
+        return more_products(sums, probability, values);
     }
-    let expected = sums.count;
-    if count != expected {
-        return SumsTurn {
-            fault: answer::refuse(19, entity as u64, expected as u64, count as u64, 0),
-            sums,
-        };
-    }
-    SumsTurn {
-        fault: Check::Passed,
-        sums: more_products(sums, probability, values),
-    }
+    let head = heads[row];
+    first_products(probability, values, memo::wide(head[4]))
 }
 
 // The sums as payoffs, as far as all are in range.
@@ -271,16 +272,15 @@ fn settle(sums: Sums) -> Settled
 
 // Keeps the answer of a chance node: 17 where it has no outcome, 25 where a sum is out of range.
 pub fn store_sums(
-    heads: &mut [[u32; 5]],
-    labels: &mut [[u32; 64]],
+    heads: &mut [[u32; 7]],
     payoffs: &mut [[f64; 8]],
     entity: u32,
     row: usize,
     sums: Sums,
     deepest: usize,
 ) -> Visit
-    requires { ⌜ Within (rows (now heads) (now labels) (now payoffs)) row × (deepest < 64) × Sized sums ⌝ }
-    ensures { λ v. ⌜ ((sofar : Option (List Number)) → Holds sums sofar → KeptAs (rows (now (heads .entry)) (now (labels .entry)) (now (payoffs .entry))) (rows (now (heads .exit)) (now (labels .exit)) (now (payoffs .exit))) row (deepest + 1) (weighedUp entity sofar) v) ⌝ }
+    requires { ⌜ Within (rows (now heads) (now payoffs)) row × (deepest < 64) × Sized sums ⌝ }
+    ensures { λ v. ⌜ ((method : Method) (s : List ℕ) (sofar : Option (List Number)) → Holds sums sofar → KeptAs method s (rows (now (heads .entry)) (now (payoffs .entry))) (rows (now (heads .exit)) (now (payoffs .exit))) row (deepest + 1) (weighedUp entity sofar) v) ⌝ }
 {
     if !sums.started {
         return memo::refused(17, entity as u64);
@@ -291,7 +291,7 @@ pub fn store_sums(
     }
     let values = settled.payoffs;
     let count = sums.count;
-    let head = [(deepest + 1) as u32, 0, 0, 0, count as u32];
-    memo::store(heads, labels, payoffs, row, head, [0u32; 64], values);
+    let head = [(deepest + 1) as u32, 0, 0, 0, count as u32, 0, 0];
+    memo::store(heads, payoffs, row, head, values);
     Visit::Solved(row)
 }

@@ -11,9 +11,10 @@ use Rattle.game.specs.declared.Kind.the-variants as Kinds
 use Rattle.game.specs.declared.Node.{Node}
 use Rattle.game.specs.Game.{kindOf}
 use Rattle.sheet.specs.Meaning.{gameOf}
+use Rattle.backward_induction.specs.Solve.{atKind, solve}
 use Rattle.memo.specs.Memo.{rows}
 use Rattle.memo.proofs.VisitLaws.{kept-visits}
-use Rattle.entering.specs.Solving.{NodeAt, ended}
+use Rattle.entering.specs.Solving.{NodeAt}
 use Rattle.entering.proofs.Entering.{node-at, node-kind, node-missing, no-depth, no-node, at-terminal, known-visited}
 use Rattle.entering.proofs.enter.Statement.{statement}
 use Rattle.entering.proofs.enter.Tie as tie
@@ -73,7 +74,7 @@ returns-3 : tie.Need-returns-3
 returns-3 c =
     let start = c .before .before .before .before .before .before .before .before .before .before in
     let a = start .args in
-    let m = rows (a .heads .now) (a .labels .now) (a .payoffs .now) in
+    let m = rows (a .heads .now) (a .payoffs .now) in
     record { memo = start .pre .memo; extends = λ i h. h; entered = known-visited m (here (c .before .before .before .before)) (sym (c .before .is-known .ensures) ∙ c .if2 .taken) }
 
 node-row-requires : tie.Need-node-row-requires
@@ -83,7 +84,7 @@ enum-told-2 : tie.Need-enum-told-2
 enum-told-2 c = search needs
 
 solve-terminal-requires : tie.Need-solve-terminal-requires
-solve-terminal-requires c κs = let p = c .before .before .before .before .before .before .before .before .before .before .before .before .before .before .before .before .pre in (p .opens, p .memo .within _ (here (c .before .before .before .before .before .before .before .before .before .before) .here))
+solve-terminal-requires c κs = let p = c .before .before .before .before .before .before .before .before .before .before .before .before .before .before .before .pre in (p .opens, p .memo .within _ (here (c .before .before .before .before .before .before .before .before .before) .here))
 
 enum-known-kind : tie.Need-enum-known-kind
 enum-known-kind c = search needs
@@ -103,43 +104,41 @@ same-length-2 c = search needs
 same-length-3 : tie.Need-same-length-3
 same-length-3 c = search needs
 
-same-length-4 : tie.Need-same-length-4
-same-length-4 c = search needs
-
 returns-4 : tie.Need-returns-4
 returns-4 c =
-    let start = c .before .before .before .before .before .before .before .before .before .before .before .before .before .before .before .before .before .before .before .before in
+    let start = c .before .before .before .before .before .before .before .before .before .before .before .before .before .before .before .before .before .before in
     let a = start .args in
-    let some-left = c .before .before .before .before .before .before .before .before .before .before .before .before .before .before .before .before .before .if1 .left in
-    let node = here (c .before .before .before .before .before .before .before .before .before .before .before .before .before .before) in
-    let kind = kind-is (c .before .before .before .before .before .before .before .before .before) Kinds.Terminal (c .before .before .before .before .before .before .before .enum-told2 .given .1) in
-    let t = c .before .before .before .solve-terminal in
-    let m = rows (a .heads .now) (a .labels .now) (a .payoffs .now) in
-    let m′ = rows (t .last .1 .0) (t .last .1 .1 .0) (t .last .1 .1 .1 .0) in
+    let some-left = c .before .before .before .before .before .before .before .before .before .before .before .before .before .before .before .if1 .left in
+    let node = here (c .before .before .before .before .before .before .before .before .before .before .before .before) in
+    let kind = kind-is (c .before .before .before .before .before .before .before) Kinds.Terminal (c .before .before .before .before .before .enum-told2 .given .1) in
+    let t = c .before .before .solve-terminal in
+    let m = rows (a .heads .now) (a .payoffs .now) in
+    let m′ = rows (t .last .1 .0) (t .last .1 .1 .0) in
     let near : 1 ≤ a .left = omega arith in
-    let v = kept-visits m m′ (start .pre .memo) (node .here) (node .entity) near (lit< tt) (ended (gameOf (a .sheet .now)) (a .entity)) (t .ensures) (at-terminal (a .method) (a .sheet .now) (a .entity) kind) in
+    let f = solve (a .method) (gameOf (a .sheet .now)) 0 in
+    let v = kept-visits m m′ (start .pre .memo) (node .here) (node .entity) near (lit< tt) (atKind (a .method) (gameOf (a .sheet .now)) f (a .entity) Kinds.Terminal) (t .ensures (a .method) f) (at-terminal (a .method) (a .sheet .now) (a .entity) kind f) in
     record { memo = v .memo; extends = v .extends; entered = v .visited }
 
-same-length-5 : tie.Need-same-length-5
-same-length-5 c = search needs
+same-length-4 : tie.Need-same-length-4
+same-length-4 c = search needs
 
 returns-5 : tie.Need-returns-5
 returns-5 c =
     let start = c .before .before .before .before .before .before .before .before .before .before .before .before .before .before .before in
     let a = start .args in
     let some-left = c .before .before .before .before .before .before .before .before .before .before .before .before .if1 .left in
-    let m = rows (a .heads .now) (a .labels .now) (a .payoffs .now) in
+    let m = rows (a .heads .now) (a .payoffs .now) in
     record { memo = start .pre .memo; extends = λ i h. h; entered = c .enter-decision .ensures (a .method) m (a .left) (omega arith) }
 
-same-length-6 : tie.Need-same-length-6
-same-length-6 c = search needs
+same-length-5 : tie.Need-same-length-5
+same-length-5 c = search needs
 
 returns-6 : tie.Need-returns-6
 returns-6 c =
     let start = c .before .before .before .before .before .before .before .before .before .before .before .before .before .before in
     let a = start .args in
     let some-left = c .before .before .before .before .before .before .before .before .before .before .before .if1 .left in
-    let m = rows (a .heads .now) (a .labels .now) (a .payoffs .now) in
+    let m = rows (a .heads .now) (a .payoffs .now) in
     record { memo = start .pre .memo; extends = λ i h. h; entered = c .enter-chance .ensures m (a .left) (omega arith) }
 
 pub enter-spec : {M : Type 1} → statement M
@@ -165,9 +164,8 @@ enter-spec =
     enter-chance-requires
     same-length-2
     same-length-3
-    same-length-4
     returns-4
-    same-length-5
+    same-length-4
     returns-5
-    same-length-6
+    same-length-5
     returns-6)

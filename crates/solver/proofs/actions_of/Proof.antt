@@ -1,43 +1,55 @@
--- `actions_of` turns the labels round. The loop's invariant: the first j of the turned list stand in the array.
+-- `actions_of` follows the rows. The loop's invariant: the first j labels stand in the array, and the others are those from the row `at` on.
 use Prim.Native.Nat.{ℕ, _-_, _≤_}
 use mathlib.Core.Path.{_≡_, refl, sym, ap, _∙_}
-use mathlib.Core.List.{List, reverse, _++_}
+use mathlib.Core.List.{List, _++_}
 use native.Mathlib.Omega.{arith}
+use native.Mathlib.Nat.{sub-zero}
 use borrow.Author.Needs.{needs}
-use lib.ListN.{length, take, replicate, length-set, length-reverse}
-use lib.Seq.{length-take-le}
+use lib.ListN.{length, drop, replicate, length-set}
+use Rattle.memo.specs.Memo.{labelsFrom, Along}
 use Rattle.turns.proofs.Overwrite.{over, over-plain, over-end, drop-replicate}
 use Rattle.solver.specs.Held.{padded}
-use Rattle.solver.proofs.HeldLaws.{getD-reverse}
+use Rattle.solver.proofs.HeldLaws.{labels-count, along-next, labels-next}
 use Rattle.solver.proofs.actions_of.Statement.{statement}
 use Rattle.solver.proofs.actions_of.Tie as tie
 
 abbrev Inv-loop : tie.InvT-loop
-Inv-loop count names out₀ j₀ out j = (j ≤ count) × (length out ≡ 64) × (out ≡ over (reverse (take count names)) out₀ j)
+Inv-loop heads row count out₀ at₀ j₀ out at j =
+    (j ≤ count) × (length out ≡ 64) × Along heads (count - j) at × (drop j (labelsFrom heads count row) ≡ labelsFrom heads (count - j) at) × (out ≡ over (labelsFrom heads count row) out₀ j)
 
 abbrev μ-loop : tie.MeasureT-loop
-μ-loop count names out₀ j₀ out j = count - j
+μ-loop heads row count out₀ at₀ j₀ out at j = count - j
 
 loop-holds : tie.Need-loop-holds Inv-loop μ-loop
-loop-holds c = (omega arith, refl, refl)
+loop-holds c = let p = c .pre in (omega arith, refl, rw sub-zero (p .1), rw sub-zero, refl)
 
-sub-out : tie.Need-sub-out Inv-loop μ-loop
-sub-out c = omega arith
+mul-head : tie.Need-mul-head Inv-loop μ-loop
+mul-head c =
+    let l = c .before .loop in
+    let a = c .before .before .args in
+    let here = along-next (a .heads .now) (a .count) (l .j) (l .at) (c .loop-test .taken) (l .inv .2) .0 in
+    search needs
 
-sub-out-2 : tie.Need-sub-out-2 Inv-loop μ-loop
-sub-out-2 c = omega arith
+shared-slice-copy-out-head : tie.Need-shared-slice-copy-out-head Inv-loop μ-loop
+shared-slice-copy-out-head c =
+    let l = c .before .loop in
+    let a = c .before .before .args in
+    along-next (a .heads .now) (a .count) (l .j) (l .at) (c .loop-test .taken) (l .inv .2) .0
+
+array-read-out : tie.Need-array-read-out Inv-loop μ-loop
+array-read-out c = search needs
 
 mul-out : tie.Need-mul-out Inv-loop μ-loop
 mul-out c = omega arith
 
-array-read-out : tie.Need-array-read-out Inv-loop μ-loop
-array-read-out c = omega arith
-
-mul-out-2 : tie.Need-mul-out-2 Inv-loop μ-loop
-mul-out-2 c = omega arith
-
 array-write-out : tie.Need-array-write-out Inv-loop μ-loop
 array-write-out c = omega arith
+
+array-read-wide : tie.Need-array-read-wide Inv-loop μ-loop
+array-read-wide c = search needs
+
+wide-requires : tie.Need-wide-requires Inv-loop μ-loop
+wide-requires c κs = search needs
 
 add-j : tie.Need-add-j Inv-loop μ-loop
 add-j c = omega arith
@@ -47,31 +59,29 @@ loop-less c = omega arith
 
 loop-again : tie.Need-loop-again Inv-loop μ-loop
 loop-again c =
-    let start = c .before .before in
-    let loop-head = c .before in
-    let a = start .args in
-    let p = start .pre in
-    let l = loop-head .loop in
-    let long : length (a .t1) ≡ 64 = search needs in
-    let n : length (reverse (take (a .count) (a .t1))) ≡ a .count = length-reverse (take (a .count) (a .t1)) ∙ length-take-le (a .count) (a .t1) (omega arith) in (
+    let a = c .before .before .before .before .args in
+    let l = c .before .before .before .loop in
+    let h = c .before .before .loop-test .taken in
+    let all = labelsFrom (a .heads .now) (a .count) (a .row) in
+    let n = labels-count (a .heads .now) (a .count) (a .row) in
+    let (first, rest) = labels-next (a .heads .now) all (a .count) (l .j) (l .at) h (omega arith) (l .inv .3) in (
       omega arith,
       length-set (l .out) (l .j) _ ∙ l .inv .1,
-      over-plain (reverse (take (a .count) (a .t1))) (replicate 64 0) (l .out) (l .j) 0 _ (omega arith) (omega arith) (l .inv .2) (sym (getD-reverse (a .t1) (a .count) (l .j) 0 (omega arith) (omega arith))),
+      rw (c .wide .ensures) (along-next (a .heads .now) (a .count) (l .j) (l .at) h (l .inv .2) .1),
+      rw (c .wide .ensures) rest,
+      over-plain all (replicate 64 0) (l .out) (l .j) 0 _ (omega arith) (omega arith) (l .inv .4) first,
     )
 
 returns : tie.Need-returns Inv-loop μ-loop
 unfolding padded
 returns c =
-    let start = c .before .before in
-    let loop-head = c .before in
-    let a = start .args in
-    let p = start .pre in
-    let l = loop-head .loop in
-    let long : length (a .t1) ≡ 64 = search needs in
-    let new = reverse (take (a .count) (a .t1)) in
-    let n : length (reverse (take (a .count) (a .t1))) ≡ a .count = length-reverse (take (a .count) (a .t1)) ∙ length-take-le (a .count) (a .t1) (omega arith) in
+    let a = c .before .before .args in
+    let l = c .before .loop in
+    let p = c .before .before .pre in
+    let all = labelsFrom (a .heads .now) (a .count) (a .row) in
+    let n : length all ≡ a .count = labels-count (a .heads .now) (a .count) (a .row) in
     let end : l .j ≡ a .count = omega arith in
-    (rw end at (l .inv .2)) ∙ over-end new (replicate 64 0) (a .count) n ∙ ap (λ (zs : List ℕ). new ++ zs) (drop-replicate 0 (a .count) 64) ∙ ap (λ (k : ℕ). new ++ replicate (64 - k) 0) (sym n)
+    (rw end at (l .inv .4)) ∙ over-end all (replicate 64 0) (a .count) n ∙ ap (λ (zs : List ℕ). all ++ zs) (drop-replicate 0 (a .count) 64) ∙ ap (λ (k : ℕ). all ++ replicate (64 - k) 0) (sym n)
 
 pub actions-of-spec : {M : Type 1} → statement M
 actions-of-spec =
@@ -80,12 +90,13 @@ actions-of-spec =
     Inv-loop
     μ-loop
     loop-holds
-    sub-out
-    sub-out-2
-    mul-out
+    mul-head
+    shared-slice-copy-out-head
     array-read-out
-    mul-out-2
+    mul-out
     array-write-out
+    array-read-wide
+    wide-requires
     add-j
     loop-less
     loop-again

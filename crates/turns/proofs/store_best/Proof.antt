@@ -14,12 +14,12 @@ refused-requires : tie.Need-refused-requires
 refused-requires c κs = search needs
 
 returns : tie.Need-returns
-returns c = rw ((c .before) .enum-told .given .1) (refl, c .refused .ensures)
+returns c method s memo = rw ((c .before) .enum-told .given .1) (λ kept. (refl, c .refused .ensures))
 
 store-winner-requires : tie.Need-store-winner-requires
 store-winner-requires c κs =
-    let start = c .before .before .before .before .before .before in
-    let after-best = c .before .before .before .before in
+    let start = c .before .before .before .before .before in
+    let after-best = c .before .before .before in
     let p = start .pre in let b = after-best .best .given .1 in (p .0, p .1, rw b at (p .2))
 
 same-length : tie.Need-same-length
@@ -28,14 +28,11 @@ same-length c = search needs
 same-length-2 : tie.Need-same-length-2
 same-length-2 c = search needs
 
-same-length-3 : tie.Need-same-length-3
-same-length-3 c = search needs
-
 returns-2 : tie.Need-returns-2
-returns-2 c =
-    let after-best = c .before .before .before .before .before .before .before .before in
-    let after-store-winner = c .before .before .before in
-    rw (after-best .best .given .1) (after-store-winner .store-winner .ensures, refl)
+returns-2 c method s memo =
+    let after-best = c .before .before .before .before .before .before in
+    let after-store-winner = c .before .before in
+    rw (after-best .best .given .1) (λ kept. (after-store-winner .store-winner .ensures method s memo kept, refl))
 
 pub store-best-spec : {M : Type 1} → statement M
 store-best-spec =
@@ -48,5 +45,4 @@ store-best-spec =
     store-winner-requires
     same-length
     same-length-2
-    same-length-3
     returns-2)

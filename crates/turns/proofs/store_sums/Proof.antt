@@ -37,14 +37,14 @@ returns-2 c =
     let s = after-settle .settle in
     sums-out (a .sums) (a .entity) (a .row) _ (c .refused2 .result) _ (not-false _ (else1 .if1 .left)) (subst (λ (b : Bool). SettledAs b (cells (a .sums)) (map meaning (s .result .payoffs))) (not-true (s .result .«in_range») (then2 .if2 .taken)) (s .ensures)) (c .refused2 .ensures)
 
-add-t15 : tie.Need-add-t15
-add-t15 c = search needs
+add-t14 : tie.Need-add-t14
+add-t14 c = search needs
+
+cast-t15 : tie.Need-cast-t15
+cast-t15 c = search needs
 
 cast-t16 : tie.Need-cast-t16
 cast-t16 c = search needs
-
-cast-t17 : tie.Need-cast-t17
-cast-t17 c = search needs
 
 store-requires : tie.Need-store-requires
 store-requires c κs = search needs
@@ -55,20 +55,17 @@ same-length c = search needs
 same-length-2 : tie.Need-same-length-2
 same-length-2 c = search needs
 
-same-length-3 : tie.Need-same-length-3
-same-length-3 c = search needs
-
 returns-3 : tie.Need-returns-3
 returns-3 c =
-    let start = c .before .before .before .before .before .before .before .before .before .before .before .before .before in
-    let else1 = c .before .before .before .before .before .before .before .before .before .before .before in
-    let after-settle = c .before .before .before .before .before .before .before .before .before .before in
-    let else2 = c .before .before .before .before .before .before .before .before in
-    let after-store = c .before .before .before in
+    let start = c .before .before .before .before .before .before .before .before .before .before .before in
+    let else1 = c .before .before .before .before .before .before .before .before .before in
+    let after-settle = c .before .before .before .before .before .before .before .before in
+    let else2 = c .before .before .before .before .before .before in
+    let after-store = c .before .before in
     let a = start .args in
     let s = after-settle .settle in
     let m = after-store .store in
-    sums-kept (a .sums) (a .entity) (a .row) (a .deepest) (rows (a .heads .now) (a .labels .now) (a .payoffs .now)) (rows (m .last .0) (m .last .1 .0) (m .last .1 .1 .0)) (s .result .payoffs) (start .pre .1) (not-false _ (else1 .if1 .left)) (subst (λ (b : Bool). SettledAs b (cells (a .sums)) (map meaning (s .result .payoffs))) (not-false (s .result .«in_range») (else2 .if2 .left)) (s .ensures)) (m .ensures)
+    sums-kept (a .sums) (a .entity) (a .row) (a .deepest) (rows (a .heads .now) (a .payoffs .now)) (rows (m .last .0) (m .last .1 .0)) (s .result .payoffs) (start .pre .1) (not-false _ (else1 .if1 .left)) (subst (λ (b : Bool). SettledAs b (cells (a .sums)) (map meaning (s .result .payoffs))) (not-false (s .result .«in_range») (else2 .if2 .left)) (s .ensures)) (m .ensures)
 
 pub store-sums-spec : {M : Type 1} → statement M
 store-sums-spec =
@@ -79,11 +76,10 @@ store-sums-spec =
     settle-requires
     refused-requires-2
     returns-2
-    add-t15
+    add-t14
+    cast-t15
     cast-t16
-    cast-t17
     store-requires
     same-length
     same-length-2
-    same-length-3
     returns-3)

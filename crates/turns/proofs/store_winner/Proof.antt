@@ -11,50 +11,35 @@ mul-old c = search needs
 slice-copy-out-old : tie.Need-slice-copy-out-old
 slice-copy-out-old c = search needs
 
-mul-names : tie.Need-mul-names
-mul-names c = search needs
-
-slice-copy-out-names : tie.Need-slice-copy-out-names
-slice-copy-out-names c = search needs
-
 mul-values : tie.Need-mul-values
 mul-values c = search needs
 
 slice-copy-out-values : tie.Need-slice-copy-out-values
 slice-copy-out-values c = search needs
 
-array-read-wide : tie.Need-array-read-wide
-array-read-wide c = search needs
+add-t11 : tie.Need-add-t11
+add-t11 c = search needs
 
-wide-requires : tie.Need-wide-requires
-wide-requires c κs = search needs
+cast-t16 : tie.Need-cast-t16
+cast-t16 c = search needs
 
-mul-names-2 : tie.Need-mul-names-2
-mul-names-2 c = search needs
+array-read-t19 : tie.Need-array-read-t19
+array-read-t19 c = search needs
 
-array-write-names : tie.Need-array-write-names
-array-write-names c = search needs
+array-read-t22 : tie.Need-array-read-t22
+array-read-t22 c = search needs
 
-add-t14 : tie.Need-add-t14
-add-t14 c = search needs
+array-read-t25 : tie.Need-array-read-t25
+array-read-t25 c = search needs
 
-cast-t23 : tie.Need-cast-t23
-cast-t23 c = search needs
+add-t26 : tie.Need-add-t26
+add-t26 c = search needs
 
-array-read-t28 : tie.Need-array-read-t28
-array-read-t28 c = search needs
+array-read-t29 : tie.Need-array-read-t29
+array-read-t29 c = search needs
 
-array-read-t31 : tie.Need-array-read-t31
-array-read-t31 c = search needs
-
-add-t32 : tie.Need-add-t32
-add-t32 c = search needs
-
-cast-t33 : tie.Need-cast-t33
-cast-t33 c = search needs
-
-array-read-t36 : tie.Need-array-read-t36
-array-read-t36 c = search needs
+cast-t30 : tie.Need-cast-t30
+cast-t30 c = search needs
 
 store-requires : tie.Need-store-requires
 store-requires c κs = search needs
@@ -65,15 +50,11 @@ same-length c = search needs
 same-length-2 : tie.Need-same-length-2
 same-length-2 c = search needs
 
-same-length-3 : tie.Need-same-length-3
-same-length-3 c = search needs
-
 returns : tie.Need-returns
 returns c =
-    let start = c .before .before .before .before .before .before .before .before .before .before .before .before in
-    let after-wide = c .before .before .before .before .before .before .before in
-    let s = c .before .before .before .store in
-    best-keeps {m′ = rows (s .last .0) (s .last .1 .0) (s .last .1 .1 .0)} (start .pre .1) (start .pre .2) (after-wide .wide .result) (after-wide .wide .ensures) (s .ensures)
+    let start = c .before .before .before .before .before .before .before .before in
+    let s = c .before .before .store in
+    best-keeps {m′ = rows (s .last .0) (s .last .1 .0)} (start .pre .1) (start .pre .2) (s .ensures)
 
 pub store-winner-spec : {M : Type 1} → statement M
 store-winner-spec =
@@ -81,23 +62,17 @@ store-winner-spec =
     (tie.spec
     mul-old
     slice-copy-out-old
-    mul-names
-    slice-copy-out-names
     mul-values
     slice-copy-out-values
-    array-read-wide
-    wide-requires
-    mul-names-2
-    array-write-names
-    add-t14
-    cast-t23
-    array-read-t28
-    array-read-t31
-    add-t32
-    cast-t33
-    array-read-t36
+    add-t11
+    cast-t16
+    array-read-t19
+    array-read-t22
+    array-read-t25
+    add-t26
+    array-read-t29
+    cast-t30
     store-requires
     same-length
     same-length-2
-    same-length-3
     returns)

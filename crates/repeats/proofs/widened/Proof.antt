@@ -1,9 +1,9 @@
 -- `widened` gives bounds on the earlier entities and on row i's.
 use native.Mathlib.Omega.{arith}
 use borrow.Author.Needs.{needs}
-use Rattle.rows.proofs.RowLaws.{within-next}
-use Rattle.rows.proofs.widened.Statement.{statement}
-use Rattle.rows.proofs.widened.Tie as tie
+use Rattle.repeats.proofs.BoundLaws.{within-next}
+use Rattle.repeats.proofs.widened.Statement.{statement}
+use Rattle.repeats.proofs.widened.Tie as tie
 
 field-requires : tie.Need-field-requires
 field-requires c κs = search needs
@@ -21,7 +21,7 @@ greatest-requires : tie.Need-greatest-requires
 greatest-requires c κs = search needs
 
 returns : tie.Need-returns
-returns c = within-next _ _ _ _ _ (c .before .before .before .before .pre .2) (omega arith) (omega arith) (omega arith) (omega arith)
+returns c = within-next _ _ _ _ (c .before .before .before .before .pre .2) _ (omega arith) (omega arith) (omega arith) (omega arith)
 
 pub widened-spec : {M : Type 1} → statement M
 widened-spec =

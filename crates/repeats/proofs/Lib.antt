@@ -1,0 +1,3 @@
+-- Laws of rows that name an earlier row's entity.
+pub mod BoundLaws
+pub mod SlotLaws
