@@ -35,12 +35,12 @@ fn unlink(links: &mut [u32], n: usize, end: u32)
 }
 
 // Child row i in front of the child rows of its parent.
-fn link_row(sheet: &[u8], links: &mut [u32], i: usize)
+fn link_row(sheet: &[u8], hints: &[u16], links: &mut [u32], i: usize)
     requires { ⌜ Opens (now sheet) × (i < rowCount (now sheet) 1) × LinkedFrom (now sheet) (i + 1) (now links) ⌝ }
     ensures { λ _. ⌜ LinkedFrom (now (sheet .entry)) i (now (links .exit)) ⌝ }
 {
     let parent = layout::u32_field(sheet, 1, i, 4);
-    let Found::At(r) = opening::find_row(sheet, 0, parent) else {
+    let Found::At(r) = lookup::find_row(sheet, hints, 0, parent) else {
         return;
     };
     links[2 * i + 1] = links[2 * r];
@@ -48,7 +48,7 @@ fn link_row(sheet: &[u8], links: &mut [u32], i: usize)
 }
 
 // Links the child rows by parent.
-pub fn link(sheet: &[u8], links: &mut [u32])
+pub fn link(sheet: &[u8], hints: &[u16], links: &mut [u32])
     requires { ⌜ Opens (now sheet) × (2 * rowCount (now sheet) 0 ≤ length (now links)) × (2 * rowCount (now sheet) 1 ≤ length (now links)) ⌝ }
     ensures { λ _. ⌜ Linked (now (sheet .entry)) (now (links .exit)) ⌝ }
 {
@@ -57,6 +57,6 @@ pub fn link(sheet: &[u8], links: &mut [u32])
     let mut i = n;
     while 0 < i {
         i -= 1;
-        link_row(sheet, links, i);
+        link_row(sheet, hints, links, i);
     }
 }

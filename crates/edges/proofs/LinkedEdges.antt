@@ -1,6 +1,6 @@
 -- The edges out of a node along the links of its child rows: what lies between a child row and the next gives no edge.
 use Prim.Native.Nat.{ℕ, _+_, _*_, _≤_, _<_}
-use mathlib.Core.Path.{_≡_, ap, _∙_}
+use mathlib.Core.Path.{_≡_, sym, ap, _∙_}
 use mathlib.Core.List.{List}
 use mathlib.Core.Option.{Option, none, some}
 use native.Mathlib.Omega.{arith}
@@ -8,14 +8,14 @@ use lib.ListN.{length}
 use Rattle.answer.specs.declared.Refusal.{Refusal}
 use Rattle.answer.specs.Fault.{Fault}
 use Rattle.answer.specs.Answer.{Answer, refused, done, faultIn}
-use Rattle.layout.specs.Layout.{rowCount}
-use Rattle.graph_relations.specs.Relations.{ChildRow}
+use Rattle.layout.specs.Layout.{rowCount, field}
+use Rattle.graph_relations.specs.Relations.{ChildRow, childIn}
 use Rattle.graph_relations.specs.RelationRows.{childRow}
-use Rattle.graph_relations.proofs.RelationLaws.{child-other}
+use Rattle.graph_relations.proofs.RelationLaws.{child-own, child-other}
 use Rattle.game.specs.declared.ActionEdge.{ActionEdge}
 use Rattle.game.specs.Game.{Chance, actionOf, chanceOf}
-use Rattle.game.specs.Edges.{actionEdgeIn, chanceOutcomeIn, collectFrom}
-use Rattle.game.proofs.EdgeLaws.{row-other}
+use Rattle.game.specs.Edges.{edgeOf, actionEdgeIn, chanceOutcomeIn, collectFrom}
+use Rattle.game.proofs.EdgeLaws.{row-other, row-own}
 use Rattle.sheet.specs.Meaning.{gameOf}
 use Rattle.child_rows.specs.Links.{parentIn, NextOf, nextChild, Chain}
 use Rattle.child_rows.proofs.LinkLaws.{chain-next, chain-goes, chain-room}
@@ -32,6 +32,20 @@ module _ (s : List ℕ) (source k : ℕ) (other : parentIn s k ≡ source → �
   unfolding chanceOutcomeIn
   no-chance = row-other (gameOf s) (chanceOf (gameOf s)) (λ (c : Chance). c .target) source (childRow s k) (child-other source (childRow s k) other)
 
+-- ---- a row of the source is its entity as an edge
+module _ (s : List ℕ) (source k e : ℕ) (own : parentIn s k ≡ source) (named : e ≡ field s 1 k 0) where
+  child : childIn source (childRow s k) ≡ some e
+  unfolding childRow
+  child = child-own source (childRow s k) own ∙ ap some (sym named)
+
+  pub own-action : edgeOf (gameOf s) (actionOf (gameOf s)) (λ a. a .target) e ≡ actionEdgeIn (gameOf s) source (childRow s k)
+  unfolding actionEdgeIn
+  own-action = sym (row-own (gameOf s) (actionOf (gameOf s)) (λ (a : ActionEdge). a .target) source (childRow s k) e child)
+
+  pub own-chance : edgeOf (gameOf s) (chanceOf (gameOf s)) (λ c. c .target) e ≡ chanceOutcomeIn (gameOf s) source (childRow s k)
+  unfolding chanceOutcomeIn
+  own-chance = sym (row-own (gameOf s) (chanceOf (gameOf s)) (λ (c : Chance). c .target) source (childRow s k) e child)
+
 -- ---- the first fault along the links, where a row of another parent gives nothing
 module _ {B : Type 0} (f : ChildRow → Answer (Option B)) (s links : List ℕ) (p n : ℕ) (fault : Fault) where
   -- the loop's invariant at row i: the fault is the first from row i on
@@ -45,8 +59,11 @@ module _ {B : Type 0} (f : ChildRow → Answer (Option B)) (s links : List ℕ) 
     linked-starts q e to chain = record { rows = q; chain = chain; from = (to .within, e ∙ ap faultIn (skip-to f s p other to)) }
 
     module _ (i : ℕ) (left : LinkedFault i) (h : i < n) where
-      in-rows : i < rowCount s 1
+      pub in-rows : i < rowCount s 1
       in-rows = rw (left .rows) at h
+
+      pub linked-own : parentIn s i ≡ p
+      linked-own = left .chain .own in-rows
 
       pub linked-room : 2 * i + 1 < length links
       linked-room = chain-room (left .chain) in-rows

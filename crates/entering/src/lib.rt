@@ -49,6 +49,7 @@ fn payoffs_from(sheet: &[u8], first: usize, count: usize) -> [f64; 8]
 // A terminal node: 13, or its payoffs.
 fn solve_terminal(
     sheet: &[u8],
+    hints: &[u16],
     heads: &mut [[u32; 7]],
     payoffs: &mut [[f64; 8]],
     entity: u32,
@@ -57,7 +58,7 @@ fn solve_terminal(
     requires { ⌜ Opens (now sheet) × Within (rows (now heads) (now payoffs)) row ⌝ }
     ensures { λ v. ⌜ ((method : Method) (f : Solver) → KeptAs method (now (sheet .entry)) (rows (now (heads .entry)) (now (payoffs .entry))) (rows (now (heads .exit)) (now (payoffs .exit))) row 1 (atKind method (gameOf (now (sheet .entry))) f entity Kinds.Terminal) v) ⌝ }
 {
-    let TerminalFound::Found(t) = sheet::find_terminal(sheet, entity) else {
+    let TerminalFound::Found(t) = sheet::find_terminal(sheet, hints, entity) else {
         return memo::refused(13, entity as u64);
     };
     let count = t.count;
@@ -68,19 +69,33 @@ fn solve_terminal(
 }
 
 // A decision: the faults among its edges.
-fn enter_decision(sheet: &[u8], links: &[u32], entity: u32, row: usize, player: u32) -> Entered
+fn enter_decision(
+    sheet: &[u8],
+    hints: &[u16],
+    links: &[u32],
+    entity: u32,
+    row: usize,
+    player: u32,
+) -> Entered
     requires { ⌜ Opens (now sheet) × Linked (now sheet) (now links) × NodeAt (now sheet) row entity × (kindOf (gameOf (now sheet)) entity ≡ some (Kinds.Decision player)) ⌝ }
     ensures { λ r. ⌜ ((method : Method) (m : Rows) (left : ℕ) → 0 < left → EnteredAs method (now (sheet .entry)) m left entity r) ⌝ }
 {
     let from = child_rows::first_child(links, row);
-    match edges::linked_action_edges(sheet, links, entity, from) {
+    match edges::linked_action_edges(sheet, hints, links, entity, from) {
         Check::Refused(r) => Entered::Done(Visit::Refused(r)),
         Check::Passed => Entered::Decision(row, player),
     }
 }
 
 // A chance node: 20 where the method is plain, else the faults among its outcomes.
-fn enter_chance(sheet: &[u8], links: &[u32], method: Method, entity: u32, row: usize) -> Entered
+fn enter_chance(
+    sheet: &[u8],
+    hints: &[u16],
+    links: &[u32],
+    method: Method,
+    entity: u32,
+    row: usize,
+) -> Entered
     requires { ⌜ Opens (now sheet) × Linked (now sheet) (now links) × NodeAt (now sheet) row entity × (kindOf (gameOf (now sheet)) entity ≡ some Kinds.Chance) ⌝ }
     ensures { λ r. ⌜ ((m : Rows) (left : ℕ) → 0 < left → EnteredAs method (now (sheet .entry)) m left entity r) ⌝ }
 {
@@ -88,7 +103,7 @@ fn enter_chance(sheet: &[u8], links: &[u32], method: Method, entity: u32, row: u
         return Entered::Done(memo::refused(20, entity as u64));
     }
     let from = child_rows::first_child(links, row);
-    match edges::linked_chance_outcomes(sheet, links, entity, from) {
+    match edges::linked_chance_outcomes(sheet, hints, links, entity, from) {
         Check::Refused(r) => Entered::Done(Visit::Refused(r)),
         Check::Passed => Entered::Chance(row),
     }
@@ -97,6 +112,7 @@ fn enter_chance(sheet: &[u8], links: &[u32], method: Method, entity: u32, row: u
 // Enters a node with so much depth left: 24, 11, an answer that is known, then by kind as far as no target is solved.
 pub fn enter(
     sheet: &[u8],
+    hints: &[u16],
     links: &[u32],
     heads: &mut [[u32; 7]],
     payoffs: &mut [[f64; 8]],
@@ -110,7 +126,7 @@ pub fn enter(
     if left == 0 {
         return Entered::Done(memo::refused(24, entity as u64));
     }
-    let Found::At(row) = opening::find_row(sheet, 0, entity) else {
+    let Found::At(row) = lookup::find_row(sheet, hints, 0, entity) else {
         return Entered::Done(memo::refused(11, entity as u64));
     };
     if memo::is_known(heads, row, left) {
@@ -119,8 +135,8 @@ pub fn enter(
     let node = sheet::node_row(sheet, row);
     let kind = node.kind;
     match kind {
-        Kind::Terminal => Entered::Done(solve_terminal(sheet, heads, payoffs, entity, row)),
-        Kind::Decision { player } => enter_decision(sheet, links, entity, row, player),
-        Kind::Chance => enter_chance(sheet, links, method, entity, row),
+        Kind::Terminal => Entered::Done(solve_terminal(sheet, hints, heads, payoffs, entity, row)),
+        Kind::Decision { player } => enter_decision(sheet, hints, links, entity, row, player),
+        Kind::Chance => enter_chance(sheet, hints, links, method, entity, row),
     }
 }

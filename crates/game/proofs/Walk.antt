@@ -1,6 +1,6 @@
 -- Collecting over the rows 0 to n - 1 one after the other: what row i adds, and what the rows from i on still give.
 use Prim.Native.Nat.{ℕ, _+_, _-_, _≤_, _<_}
-use mathlib.Core.Path.{_≡_, sym, ap, _∙_}
+use mathlib.Core.Path.{_≡_, refl, sym, ap, _∙_}
 use mathlib.Core.List.{List, [], _∷_}
 use mathlib.Core.Option.{Option, none, some}
 use native.Mathlib.Nat.{sub-zero}
@@ -54,3 +54,10 @@ module _ {A B : Type 0} (f : A → Answer (Option B)) (row : ℕ → A) (n : ℕ
 
       pub left-done : (r : Refusal) → i < n → f (row i) ≡ refused r → ⊥
       left-done r l e = refused-not-done (sym (from-stop r l e) ∙ left)
+
+      pub left-sound : i < n → faultIn (f (row i)) ≡ none
+      left-sound l = go (f (row i)) refl
+        where
+          go : (a : Answer (Option B)) → f (row i) ≡ a → faultIn a ≡ none
+          go (done o) q = refl
+          go (refused r) q = absurd (left-done r l q)

@@ -68,11 +68,11 @@ pub fn children_of(sheet: &[u8], parent: u32, i: usize) -> Child
     Child::Other
 }
 
-pub fn transition_target(sheet: &[u8], entity: u32) -> Target
+pub fn transition_target(sheet: &[u8], hints: &[u16], entity: u32) -> Target
     requires { ⌜ sheetFault (now sheet) ≡ none ⌝ }
     ensures { λ r. ⌜ target r ≡ transitionTarget entity (transitionRows (now (sheet .entry))) ⌝ }
 {
-    match opening::find_row(sheet, 4, entity) {
+    match lookup::find_row(sheet, hints, 4, entity) {
         Found::At(i) => Target::To(transition_to(sheet, i).target()),
         Found::Nothing => Target::Missing,
     }

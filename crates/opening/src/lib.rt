@@ -1,10 +1,8 @@
 // The rows of a sheet: what opening it checks after its layout.
 ghost use mathlib.Core.Path.{_≡_};
 ghost use mathlib.Core.Option.{none};
-ghost use mathlib.Core.Bool.{true};
 ghost use Prim.Native.Nat.{_+_, _%_, _≤_, _<_};
 ghost use Rattle.answer.specs.Fault.{faultOf, first};
-ghost use Rattle.rows.specs.Rows.{findRow, foundAt};
 ghost use Rattle.layout.specs.Layout.{width, layoutFault, section, rowCount};
 ghost use Rattle.opening.specs.Faults.{nodeFault, labelFault, chanceFault, terminalFault, payoffFault, setFault, labelEnd, previousEnd, labelRowFault, textFault, fieldsFault};
 ghost use Rattle.opening.specs.SheetFault.{hasEntity, rowFault, payoffStart, totalFault, rowsFault, sheetFault, RowOf, RowsOf, Unrepeated};
@@ -394,12 +392,4 @@ pub fn check_sheet(sheet: &[u8]) -> Check
         return v;
     }
     check_sections(sheet)
-}
-
-// The row of section k that names the entity, in a sheet without fault.
-pub fn find_row(sheet: &[u8], k: usize, entity: u32) -> rows::Found
-    requires { ⌜ (sheetFault (now sheet) ≡ none) × (hasEntity k ≡ true) ⌝ }
-    ensures { λ r. ⌜ foundAt r ≡ findRow (width (now (sheet .entry)) k) (section (now (sheet .entry)) k) (rowCount (now (sheet .entry)) k) entity ⌝ }
-{
-    rows::find_distinct(section_of(sheet, k), width_of(sheet, k), entity)
 }

@@ -72,11 +72,17 @@ fn is_known(memo: &[[usize; 3]], row: usize, left: usize) -> bool
 }
 
 // A terminal: 13, or one path.
-fn count_terminal(sheet: &[u8], memo: &mut [[usize; 3]], entity: u32, row: usize) -> Visit
+fn count_terminal(
+    sheet: &[u8],
+    hints: &[u16],
+    memo: &mut [[usize; 3]],
+    entity: u32,
+    row: usize,
+) -> Visit
     requires { ⌜ Opens (now sheet) × Memo (now sheet) (now memo) × RowOf (now sheet) entity row × (kindOf (gameOf (now sheet)) entity ≡ some Kind.Terminal) ⌝ }
     ensures { λ v. ⌜ ((left : ℕ) → 0 < left → Visits (now (sheet .entry)) (now (memo .exit)) left entity v) ⌝ }
 {
-    let TerminalFound::Found(t) = sheet::find_terminal(sheet, entity) else {
+    let TerminalFound::Found(t) = sheet::find_terminal(sheet, hints, entity) else {
         return refused(13, entity);
     };
     let counts = [1, 1, 3 + t.count];
@@ -85,25 +91,25 @@ fn count_terminal(sheet: &[u8], memo: &mut [[usize; 3]], entity: u32, row: usize
 }
 
 // A node with edges: the faults among them.
-fn enter_inner(sheet: &[u8], entity: u32, row: usize) -> Entered
+fn enter_inner(sheet: &[u8], hints: &[u16], entity: u32, row: usize) -> Entered
     requires { ⌜ Opens (now sheet) × RowOf (now sheet) entity row × Continues (gameOf (now sheet)) entity ⌝ }
     ensures { λ r. ⌜ ((m : List (List ℕ)) (left : ℕ) → Memo (now (sheet .entry)) m → 0 < left → Enters (now (sheet .entry)) m left entity r) ⌝ }
 {
-    match edges::outgoing_action_edges(sheet, entity) {
+    match edges::outgoing_action_edges(sheet, hints, entity) {
         Check::Refused(r) => Entered::Done(Visit::Refused(r)),
         Check::Passed => Entered::Inner(row),
     }
 }
 
 // Enters a node with so much depth left: 24, 11, counts that are known, then by kind as far as no target is visited.
-fn enter(sheet: &[u8], memo: &mut [[usize; 3]], entity: u32, left: usize) -> Entered
+fn enter(sheet: &[u8], hints: &[u16], memo: &mut [[usize; 3]], entity: u32, left: usize) -> Entered
     requires { ⌜ Opens (now sheet) × Memo (now sheet) (now memo) ⌝ }
     ensures { λ r. ⌜ Enters (now (sheet .entry)) (now (memo .exit)) left entity r ⌝ }
 {
     if left == 0 {
         return Entered::Done(refused(24, entity));
     }
-    let Found::At(row) = opening::find_row(sheet, 0, entity) else {
+    let Found::At(row) = lookup::find_row(sheet, hints, 0, entity) else {
         return Entered::Done(refused(11, entity));
     };
     if is_known(memo, row, left) {
@@ -112,9 +118,9 @@ fn enter(sheet: &[u8], memo: &mut [[usize; 3]], entity: u32, left: usize) -> Ent
     let node = sheet::node_row(sheet, row);
     let kind = node.kind;
     match kind {
-        Kind::Terminal => Entered::Done(count_terminal(sheet, memo, entity, row)),
-        Kind::Decision { player: _ } => enter_inner(sheet, entity, row),
-        Kind::Chance => enter_inner(sheet, entity, row),
+        Kind::Terminal => Entered::Done(count_terminal(sheet, hints, memo, entity, row)),
+        Kind::Decision { player: _ } => enter_inner(sheet, hints, entity, row),
+        Kind::Chance => enter_inner(sheet, hints, entity, row),
     }
 }
 
@@ -170,11 +176,17 @@ fn keep_tally(memo: &mut [[usize; 3]], entity: u32, row: usize, tally: Tally) ->
 }
 
 // Counts the paths from a node with so much depth left.
-fn count_paths(sheet: &[u8], memo: &mut [[usize; 3]], entity: u32, left: usize) -> Visit
+fn count_paths(
+    sheet: &[u8],
+    hints: &[u16],
+    memo: &mut [[usize; 3]],
+    entity: u32,
+    left: usize,
+) -> Visit
     requires { ⌜ Opens (now sheet) × (left ≤ 64) × Memo (now sheet) (now memo) ⌝ }
     ensures { λ v. ⌜ Visits (now (sheet .entry)) (now (memo .exit)) left entity v ⌝ }
 {
-    let entered = enter(sheet, memo, entity, left);
+    let entered = enter(sheet, hints, memo, entity, left);
     match entered {
         Entered::Done(v) => v,
         Entered::Inner(row) => {
@@ -186,12 +198,12 @@ fn count_paths(sheet: &[u8], memo: &mut [[usize; 3]], entity: u32, left: usize) 
             };
             let mut i = 0;
             while i < n {
-                let step = edges::action_edge(sheet, entity, i);
+                let step = edges::action_edge(sheet, hints, entity, i);
                 let ActionStep::Edge(edge) = step else {
                     i += 1;
                     continue;
                 };
-                let v = count_paths(sheet, memo, edge.target, left - 1);
+                let v = count_paths(sheet, hints, memo, edge.target, left - 1);
                 let Visit::Counted(at) = v else {
                     return v;
                 };
@@ -204,12 +216,12 @@ fn count_paths(sheet: &[u8], memo: &mut [[usize; 3]], entity: u32, left: usize) 
 }
 
 // How many u64s the paths from a node are, or the first fault.
-pub fn word_count(sheet: &[u8], start: u32, depth: usize) -> Size
+pub fn word_count(sheet: &[u8], hints: &[u16], start: u32, depth: usize) -> Size
     requires { ⌜ Opens (now sheet) × (depth ≤ 64) ⌝ }
     ensures { λ r. ⌜ sized r ≡ sizeFrom (gameOf (now (sheet .entry))) depth start ⌝ }
 {
     let mut memo = [[0usize; 3]; 1024];
-    match count_paths(sheet, &mut memo, start, depth) {
+    match count_paths(sheet, hints, &mut memo, start, depth) {
         Visit::Refused(r) => Size::Refused(r),
         Visit::Counted(row) => {
             let counts = memo[row];

@@ -81,16 +81,16 @@ fn write_path(
 }
 
 // The terminal that a node is, where it is one.
-fn terminal_at(sheet: &[u8], entity: u32) -> TerminalFound
+fn terminal_at(sheet: &[u8], hints: &[u16], entity: u32) -> TerminalFound
     requires { ⌜ Opens (now sheet) ⌝ }
     ensures { λ r. ⌜ EndsAt (now (sheet .entry)) entity r × InSheet (now (sheet .entry)) r ⌝ }
 {
-    let NodeFound::Found(node) = sheet::find_node(sheet, entity) else {
+    let NodeFound::Found(node) = sheet::find_node(sheet, hints, entity) else {
         return TerminalFound::Missing;
     };
     let kind = node.kind;
     match kind {
-        Kind::Terminal => sheet::find_terminal(sheet, entity),
+        Kind::Terminal => sheet::find_terminal(sheet, hints, entity),
         Kind::Decision { player: _ } => TerminalFound::Missing,
         Kind::Chance => TerminalFound::Missing,
     }
@@ -99,6 +99,7 @@ fn terminal_at(sheet: &[u8], entity: u32) -> TerminalFound
 // The paths from a node, each behind the labels so far, at a place of the buffer; the answer is the place after them.
 fn write_paths(
     sheet: &[u8],
+    hints: &[u16],
     out: &mut [u64],
     labels: &mut [u32],
     count: usize,
@@ -109,20 +110,29 @@ fn write_paths(
     requires { ⌜ Opens (now sheet) × (faultIn (paths (gameOf (now sheet)) left entity) ≡ none) × (count + left ≤ length (now labels)) × (at + length (wordsFrom (gameOf (now sheet)) left entity (take count (now labels))) ≤ length (now out)) ⌝ }
     ensures { λ r. ⌜ (r ≡ at + length (wordsFrom (gameOf (now (sheet .entry))) left entity (take count (now (labels .entry))))) × (now (out .exit) ≡ written (now (out .entry)) at (wordsFrom (gameOf (now (sheet .entry))) left entity (take count (now (labels .entry))))) × (take count (now (labels .exit)) ≡ take count (now (labels .entry))) ⌝ }
 {
-    if let TerminalFound::Found(t) = terminal_at(sheet, entity) {
+    if let TerminalFound::Found(t) = terminal_at(sheet, hints, entity) {
         return write_path(sheet, out, labels, count, t, at);
     }
     let n = layout::row_count(sheet, 1);
     let mut end = at;
     let mut i = 0;
     while i < n {
-        let step = edges::action_edge(sheet, entity, i);
+        let step = edges::action_edge(sheet, hints, entity, i);
         let ActionStep::Edge(edge) = step else {
             i += 1;
             continue;
         };
         labels[count] = edge.label;
-        end = write_paths(sheet, out, labels, count + 1, edge.target, left - 1, end);
+        end = write_paths(
+            sheet,
+            hints,
+            out,
+            labels,
+            count + 1,
+            edge.target,
+            left - 1,
+            end,
+        );
         i += 1;
     }
     end
@@ -146,14 +156,16 @@ fn list_paths(sheet: &[u8], start: u32, depth: usize, out: &mut [u64]) -> Writte
     ensures { λ r. ⌜ leaves r (now (out .exit)) ≡ outcome (now (out .entry)) (listingFrom (gameOf (now (sheet .entry))) depth start (length (now (out .entry)))) ⌝ }
 {
     let room = out.len();
-    match path_counts::word_count(sheet, start, depth) {
+    let mut hints = [0u16; 4096];
+    lookup::note_rows(sheet, &mut hints);
+    match path_counts::word_count(sheet, &hints, start, depth) {
         Size::Refused(r) => Written::Refused(r),
         Size::Words(words) => {
             if room < words {
                 return refused(26, room as u64);
             }
             let mut labels = [0u32; 64];
-            Written::Count(write_paths(sheet, out, &mut labels, 0, start, depth, 0))
+            Written::Count(write_paths(sheet, &hints, out, &mut labels, 0, start, depth, 0))
         }
     }
 }

@@ -2,7 +2,7 @@
 ghost use mathlib.Core.Path.{_≡_};
 ghost use mathlib.Core.Bool.{true};
 ghost use Prim.Native.Nat.{_+_, _*_, _≤_, _<_};
-ghost use Rattle.rows.specs.Rows.{rowsIn, u32Field, u64Field, findRow, foundAt, Distinct};
+ghost use Rattle.rows.specs.Rows.{rowsIn, u32Field, u64Field, entityAt, findRow, foundAt, Distinct};
 
 pub enum Found {
     At(usize),
@@ -61,6 +61,17 @@ fn has_row(rows: &[u8], w: usize, i: u32) -> bool
     ensures { λ r. ⌜ (r ≡ true → i < rowsIn w (now (rows .entry))) ⌝ }
 {
     (i as usize + 1) * w <= rows.len()
+}
+
+// Whether row i is there and names the entity.
+pub fn names(rows: &[u8], w: usize, i: u32, entity: u32) -> bool
+    requires { ⌜ (4 ≤ w) × (w ≤ 32) ⌝ }
+    ensures { λ r. ⌜ (r ≡ true → (i < rowsIn w (now (rows .entry))) × (entityAt w (now (rows .entry)) i ≡ entity)) ⌝ }
+{
+    if !has_row(rows, w, i) {
+        return false;
+    }
+    field(rows, w, i as usize, 0) == entity
 }
 
 // A row to look at first: the entity's, where the rows are spaced as rows 0 and 1 are.
@@ -134,10 +145,8 @@ pub fn find_distinct(rows: &[u8], w: usize, entity: u32) -> Found
     ensures { λ r. ⌜ foundAt r ≡ findRow w (now (rows .entry)) (rowsIn w (now (rows .entry))) entity ⌝ }
 {
     let i = evenly_spaced(rows, w, entity);
-    if has_row(rows, w, i) {
-        if field(rows, w, i as usize, 0) == entity {
-            return Found::At(i as usize);
-        }
+    if names(rows, w, i, entity) {
+        return Found::At(i as usize);
     }
     find_halving(rows, w, count(rows, w), entity)
 }

@@ -58,39 +58,39 @@ fn member_at(sheet: &[u8], id: u64, i: usize) -> Word
 }
 
 // The label number of child row i as an action edge of the node.
-fn label_at(sheet: &[u8], node: u32, i: usize) -> Word
+fn label_at(sheet: &[u8], hints: &[u16], node: u32, i: usize) -> Word
     requires { ⌜ Opens (now sheet) × (i < rowCount (now sheet) 1) ⌝ }
     ensures { λ r. ⌜ wordIn r ≡ wordAt (now (sheet .entry)) (Listed.Labels node) i ⌝ }
 {
     let Child::Of(edge) = graph_relations::children_of(sheet, node, i) else {
         return Word::Nothing;
     };
-    match sheet::find_action(sheet, edge) {
+    match sheet::find_action(sheet, hints, edge) {
         ActionFound::Found(action) => Word::Is(action.label as u64),
         ActionFound::Missing => Word::Nothing,
     }
 }
 
 // What row i of the walk gives to the list.
-fn word_at(sheet: &[u8], list: Listed, i: usize) -> Word
+fn word_at(sheet: &[u8], hints: &[u16], list: Listed, i: usize) -> Word
     requires { ⌜ Opens (now sheet) × (i < rowTotal (now sheet) list) ⌝ }
     ensures { λ r. ⌜ wordIn r ≡ wordAt (now (sheet .entry)) list i ⌝ }
 {
     match list {
         Listed::Members(id) => member_at(sheet, id, i),
-        Listed::Labels(node) => label_at(sheet, node, i),
+        Listed::Labels(node) => label_at(sheet, hints, node, i),
     }
 }
 
 // The next word of the list from row i on.
-pub fn next_word(sheet: &[u8], list: Listed, i: usize) -> Next
+pub fn next_word(sheet: &[u8], hints: &[u16], list: Listed, i: usize) -> Next
     requires { ⌜ Opens (now sheet) ⌝ }
     ensures { λ r. ⌜ (ahead (now (sheet .entry)) list r ≡ wordsFrom (now (sheet .entry)) list i) × Onward (now (sheet .entry)) list i r ⌝ }
 {
     let n = row_total(sheet, list);
     let mut j = i;
     while j < n {
-        if let Word::Is(word) = word_at(sheet, list, j) {
+        if let Word::Is(word) = word_at(sheet, hints, list, j) {
             return Next::At { word, next: j + 1 };
         }
         j += 1;
@@ -108,7 +108,7 @@ fn is_end(next: Next) -> bool
 }
 
 // Whether the action edges of two nodes bear the same labels.
-fn same_labels(sheet: &[u8], a: u32, b: u32) -> bool
+fn same_labels(sheet: &[u8], hints: &[u16], a: u32, b: u32) -> bool
     requires { ⌜ Opens (now sheet) ⌝ }
     ensures { λ r. ⌜ r ≡ sameLabels (gameOf (now (sheet .entry))) (labelsOf (gameOf (now (sheet .entry))) a) (labelsOf (gameOf (now (sheet .entry))) b) ⌝ }
 {
@@ -118,14 +118,14 @@ fn same_labels(sheet: &[u8], a: u32, b: u32) -> bool
         let Next::At {
             word: x,
             next: after_x,
-        } = next_word(sheet, Listed::Labels(a), i)
+        } = next_word(sheet, hints, Listed::Labels(a), i)
         else {
-            return is_end(next_word(sheet, Listed::Labels(b), j));
+            return is_end(next_word(sheet, hints, Listed::Labels(b), j));
         };
         let Next::At {
             word: y,
             next: after_y,
-        } = next_word(sheet, Listed::Labels(b), j)
+        } = next_word(sheet, hints, Listed::Labels(b), j)
         else {
             return false;
         };
@@ -138,11 +138,11 @@ fn same_labels(sheet: &[u8], a: u32, b: u32) -> bool
 }
 
 // Refusals 11, 21 and 22 of a set row.
-fn check_member(sheet: &[u8], row: InformationSet) -> Check
+fn check_member(sheet: &[u8], hints: &[u16], row: InformationSet) -> Check
     requires { ⌜ Opens (now sheet) ⌝ }
     ensures { λ r. ⌜ faultOf r ≡ memberFault (gameOf (now (sheet .entry))) row (kindOf (gameOf (now (sheet .entry))) (row .entity)) ⌝ }
 {
-    let NodeFound::Found(node) = sheet::find_node(sheet, row.entity) else {
+    let NodeFound::Found(node) = sheet::find_node(sheet, hints, row.entity) else {
         return refuse(11, row.entity as u64, 0, 0, 0);
     };
     let kind = node.kind;
@@ -179,7 +179,7 @@ fn first_row(sheet: &[u8], i: usize) -> InformationSet
 }
 
 // Refusal 23 of a set row, against the first row of its set.
-fn check_agreement(sheet: &[u8], row: InformationSet, first: InformationSet) -> Check
+fn check_agreement(sheet: &[u8], hints: &[u16], row: InformationSet, first: InformationSet) -> Check
     requires { ⌜ Opens (now sheet) ⌝ }
     ensures { λ r. ⌜ faultOf r ≡ agreementFault (gameOf (now (sheet .entry))) row (some first) ⌝ }
 {
@@ -189,38 +189,38 @@ fn check_agreement(sheet: &[u8], row: InformationSet, first: InformationSet) -> 
     if first.entity == row.entity {
         return Check::Passed;
     }
-    if !same_labels(sheet, first.entity, row.entity) {
+    if !same_labels(sheet, hints, first.entity, row.entity) {
         return refuse(23, row.id, 0, 0, 0);
     }
     Check::Passed
 }
 
 // The first refusal of set row i.
-fn check_row(sheet: &[u8], i: usize) -> Check
+fn check_row(sheet: &[u8], hints: &[u16], i: usize) -> Check
     requires { ⌜ Opens (now sheet) × (i < rowCount (now sheet) 7) ⌝ }
     ensures { λ r. ⌜ faultOf r ≡ rowFault (gameOf (now (sheet .entry))) (setRow (now (sheet .entry)) i) ⌝ }
 {
     let row = sheet::set_row(sheet, i);
-    let member = check_member(sheet, row);
+    let member = check_member(sheet, hints, row);
     if let Check::Refused(_) = member {
         return member;
     }
-    let actions = edges::outgoing_action_edges(sheet, row.entity);
+    let actions = edges::outgoing_action_edges(sheet, hints, row.entity);
     if let Check::Refused(_) = actions {
         return actions;
     }
-    check_agreement(sheet, row, first_row(sheet, i))
+    check_agreement(sheet, hints, row, first_row(sheet, i))
 }
 
 // The first refusal of the set rows.
-pub fn check_rows(sheet: &[u8]) -> Check
+pub fn check_rows(sheet: &[u8], hints: &[u16]) -> Check
     requires { ⌜ Opens (now sheet) ⌝ }
     ensures { λ r. ⌜ faultOf r ≡ setFault (gameOf (now (sheet .entry))) ⌝ }
 {
     let n = layout::row_count(sheet, 7);
     let mut i = 0;
     while i < n {
-        let v = check_row(sheet, i);
+        let v = check_row(sheet, hints, i);
         if let Check::Refused(_) = v {
             return v;
         }

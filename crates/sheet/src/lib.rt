@@ -81,11 +81,11 @@ pub fn node_row(sheet: &[u8], i: usize) -> Node
     }
 }
 
-pub fn find_node(sheet: &[u8], entity: u32) -> NodeFound
+pub fn find_node(sheet: &[u8], hints: &[u16], entity: u32) -> NodeFound
     requires { ⌜ Opens (now sheet) ⌝ }
     ensures { λ r. ⌜ nodeFound r ≡ nodeOf (gameOf (now (sheet .entry))) entity ⌝ }
 {
-    match opening::find_row(sheet, 0, entity) {
+    match lookup::find_row(sheet, hints, 0, entity) {
         Found::At(i) => NodeFound::Found(node_row(sheet, i)),
         Found::Nothing => NodeFound::Missing,
     }
@@ -103,11 +103,11 @@ fn action_row(sheet: &[u8], i: usize) -> ActionEdge
     }
 }
 
-pub fn find_action(sheet: &[u8], entity: u32) -> ActionFound
+pub fn find_action(sheet: &[u8], hints: &[u16], entity: u32) -> ActionFound
     requires { ⌜ Opens (now sheet) ⌝ }
     ensures { λ r. ⌜ actionFound r ≡ actionOf (gameOf (now (sheet .entry))) entity ⌝ }
 {
-    match opening::find_row(sheet, 2, entity) {
+    match lookup::find_row(sheet, hints, 2, entity) {
         Found::At(i) => ActionFound::Found(action_row(sheet, i)),
         Found::Nothing => ActionFound::Missing,
     }
@@ -126,11 +126,11 @@ fn chance_row(sheet: &[u8], i: usize) -> ChanceOutcome
     }
 }
 
-pub fn find_chance(sheet: &[u8], entity: u32) -> ChanceFound
+pub fn find_chance(sheet: &[u8], hints: &[u16], entity: u32) -> ChanceFound
     requires { ⌜ Opens (now sheet) ⌝ }
     ensures { λ r. ⌜ chanceFound r ≡ chanceOf (gameOf (now (sheet .entry))) entity ⌝ }
 {
-    match opening::find_row(sheet, 3, entity) {
+    match lookup::find_row(sheet, hints, 3, entity) {
         Found::At(i) => ChanceFound::Found(chance_row(sheet, i)),
         Found::Nothing => ChanceFound::Missing,
     }
@@ -148,11 +148,11 @@ fn terminal_row(sheet: &[u8], i: usize) -> Terminal
     }
 }
 
-pub fn find_terminal(sheet: &[u8], entity: u32) -> TerminalFound
+pub fn find_terminal(sheet: &[u8], hints: &[u16], entity: u32) -> TerminalFound
     requires { ⌜ Opens (now sheet) ⌝ }
     ensures { λ r. ⌜ (terminalFound (now (sheet .entry)) r ≡ terminalOf (gameOf (now (sheet .entry))) entity) × InSheet (now (sheet .entry)) r ⌝ }
 {
-    match opening::find_row(sheet, 5, entity) {
+    match lookup::find_row(sheet, hints, 5, entity) {
         Found::At(i) => TerminalFound::Found(terminal_row(sheet, i)),
         Found::Nothing => TerminalFound::Missing,
     }
@@ -178,11 +178,11 @@ pub fn set_row(sheet: &[u8], i: usize) -> InformationSet
     }
 }
 
-pub fn find_set(sheet: &[u8], entity: u32) -> SetFound
+pub fn find_set(sheet: &[u8], hints: &[u16], entity: u32) -> SetFound
     requires { ⌜ Opens (now sheet) ⌝ }
     ensures { λ r. ⌜ setFound r ≡ setOf (gameOf (now (sheet .entry))) entity ⌝ }
 {
-    match opening::find_row(sheet, 7, entity) {
+    match lookup::find_row(sheet, hints, 7, entity) {
         Found::At(i) => SetFound::Found(set_row(sheet, i)),
         Found::Nothing => SetFound::Missing,
     }

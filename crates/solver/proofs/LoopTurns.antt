@@ -2,7 +2,7 @@
 use mathlib.Core.Path.{_≡_, sym, ap, _∙_, subst}
 use mathlib.Core.Logic.{_⊎_, inl, inr}
 use mathlib.Core.List.{List}
-use mathlib.Core.Option.{Option, some}
+use mathlib.Core.Option.{Option, none, some}
 use Prim.Native.Nat.{ℕ, suc, _+_, _<_, _≤_, max}
 use native.Mathlib.Omega.{arith}
 use denote.Enum.Declared
@@ -12,14 +12,14 @@ use Rattle.answer.specs.declared.Refusal.{Refusal}
 use Rattle.answer.specs.declared.Check.{Check}
 use Rattle.answer.specs.declared.Check.the-variants as Checks
 use Rattle.answer.specs.Fault.{faultOf}
-use Rattle.answer.specs.Answer.{refused, done}
+use Rattle.answer.specs.Answer.{refused, done, faultIn}
 use Rattle.layout.specs.Layout.{rowCount}
 use Rattle.graph_relations.specs.RelationRows.{childRow}
 use Rattle.game.specs.declared.ActionEdge.{ActionEdge}
 use Rattle.game.specs.declared.ChanceOutcome.{ChanceOutcome}
 use Rattle.game.specs.Game.{chanceIn}
 use Rattle.game.specs.Edges.{actionEdgeIn, chanceOutcomeIn}
-use Rattle.game.proofs.Walk.{left-done}
+use Rattle.game.proofs.Walk.{left-done, left-sound}
 use Rattle.sheet.specs.Meaning.{gameOf}
 use Rattle.edges.specs.declared.ActionStep.{ActionStep}
 use Rattle.edges.specs.declared.ActionStep.the-variants as A
@@ -69,6 +69,10 @@ module _ {method : Method} {s links : List ℕ} {m₀ m : Rows} {row e p left n 
         → ((by : Method) (sheet : List ℕ) → Memo by sheet m → KeptIn sheet m best → KeptAs by sheet m m′ row (deepest + 1) (decided e (leadIn by sheet best)) v) → Visits method s m₀ m′ left e v
     decision-ends m′ kept = walk-kept walk m′ (decided e (leadIn method s best)) (kept method s (walk .memo) (deciding .kept)) replied
 
+  -- the next child row
+  pub sound-edge : i < n → faultIn (actionEdgeIn (gameOf s) e (childRow s i)) ≡ none
+  sound-edge turn = left-sound (actionEdgeIn (gameOf s) e) (childRow s) (rowCount s 1) i (deciding .edges) (deciding .left) (in-rows walk turn)
+
   module _ (turn : i < n) {j : ℕ} (to : j ≡ nextChild links i) where
     child-row : i < rowCount s 1
     child-row = in-rows walk turn
@@ -111,6 +115,10 @@ module _ {method : Method} {s links : List ℕ} {m₀ m : Rows} {row e left n i 
   chance-ends end m′ kept =
       let q = walk .rows in
       walk-kept walk m′ (weighedUp e (weighing .sums)) (kept method s (weighing .sums) (weighing .held)) (Weighing-up.all-outcomes weighing (omega arith))
+
+  -- the next child row
+  pub sound-outcome : i < n → faultIn (chanceOutcomeIn (gameOf s) e (childRow s i)) ≡ none
+  sound-outcome turn = left-sound (chanceOutcomeIn (gameOf s) e) (childRow s) (rowCount s 1) i (weighing .outcomes) (weighing .left) (in-rows walk turn)
 
   module _ (turn : i < n) {j : ℕ} (to : j ≡ nextChild links i) where
     outcome-row : i < rowCount s 1

@@ -43,6 +43,7 @@ pub struct Solved {
 // A node: entered, and then its replies or its outcomes are solved.
 fn solve_node(
     sheet: &[u8],
+    hints: &[u16],
     links: &[u32],
     heads: &mut [[u32; 7]],
     payoffs: &mut [[f64; 8]],
@@ -53,11 +54,12 @@ fn solve_node(
     requires { ⌜ Asks method (now sheet) (now links) (rows (now heads) (now payoffs)) left ⌝ }
     ensures { λ v. ⌜ Visits method (now (sheet .entry)) (rows (now (heads .entry)) (now (payoffs .entry))) (rows (now (heads .exit)) (now (payoffs .exit))) left entity v ⌝ }
 {
-    let entered = entering::enter(sheet, links, heads, payoffs, method, entity, left);
+    let entered = entering::enter(sheet, hints, links, heads, payoffs, method, entity, left);
     match entered {
         Entered::Done(v) => v,
         Entered::Decision(row, player) => solve_decision(
             sheet,
+            hints,
             links,
             heads,
             payoffs,
@@ -69,6 +71,7 @@ fn solve_node(
         ),
         Entered::Chance(row) => solve_chance(
             sheet,
+            hints,
             links,
             heads,
             payoffs,
@@ -83,6 +86,7 @@ fn solve_node(
 // A decision solves its replies.
 fn solve_decision(
     sheet: &[u8],
+    hints: &[u16],
     links: &[u32],
     heads: &mut [[u32; 7]],
     payoffs: &mut [[f64; 8]],
@@ -100,13 +104,13 @@ fn solve_decision(
     let mut deepest = 0;
     let mut i = child_rows::first_child(links, row);
     while i < n {
-        let step = edges::action_edge(sheet, entity, i);
+        let step = edges::sound_action_edge(sheet, hints, entity, i);
         i = child_rows::next_child(links, i);
         let ActionStep::Edge(edge) = step else {
             continue;
         };
         let target = edge.target;
-        let v = solve_node(sheet, links, heads, payoffs, method, target, left);
+        let v = solve_node(sheet, hints, links, heads, payoffs, method, target, left);
         let Visit::Solved(at) = v else {
             return v;
         };
@@ -125,6 +129,7 @@ fn solve_decision(
 // A chance node solves its outcomes.
 fn solve_chance(
     sheet: &[u8],
+    hints: &[u16],
     links: &[u32],
     heads: &mut [[u32; 7]],
     payoffs: &mut [[f64; 8]],
@@ -141,13 +146,13 @@ fn solve_chance(
     let mut deepest = 0;
     let mut i = child_rows::first_child(links, row);
     while i < n {
-        let step = edges::chance_outcome(sheet, entity, i);
+        let step = edges::sound_chance_outcome(sheet, hints, entity, i);
         i = child_rows::next_child(links, i);
         let ChanceStep::Outcome(outcome) = step else {
             continue;
         };
         let target = outcome.target;
-        let v = solve_node(sheet, links, heads, payoffs, method, target, left);
+        let v = solve_node(sheet, hints, links, heads, payoffs, method, target, left);
         let Visit::Solved(at) = v else {
             return v;
         };
@@ -215,9 +220,10 @@ fn solution_at(heads: &[[u32; 7]], payoffs: &[[f64; 8]], row: usize) -> Solved
     }
 }
 
-// The solve of an opened sheet, to a depth, in links and a memo that are lent.
+// The solve of an opened sheet, to a depth, in hints, links and a memo that are lent.
 fn solve_in(
     sheet: &[u8],
+    hints: &mut [u16],
     links: &mut [u32],
     heads: &mut [[u32; 7]],
     payoffs: &mut [[f64; 8]],
@@ -228,8 +234,9 @@ fn solve_in(
     requires { ⌜ Opens (now sheet) × (depth ≤ 64) × Lent method (now sheet) (now links) (rows (now heads) (now payoffs)) ⌝ }
     ensures { λ r. ⌜ held r ≡ heldFor (solution-with method (gameOf (now (sheet .entry))) depth start) ⌝ }
 {
-    child_rows::link(sheet, links);
-    let v = solve_node(sheet, links, heads, payoffs, method, start, depth);
+    lookup::note_rows(sheet, hints);
+    child_rows::link(sheet, hints, links);
+    let v = solve_node(sheet, hints, links, heads, payoffs, method, start, depth);
     match v {
         Visit::Refused(r) => refused_answer(Check::Refused(r)),
         Visit::Solved(row) => solution_at(heads, payoffs, row),
@@ -241,11 +248,13 @@ fn solve_32(sheet: &[u8], method: Method, start: u32, depth: usize) -> Solved
     requires { ⌜ Opens (now sheet) × (depth ≤ 64) × (rowCount (now sheet) 0 ≤ 32) × (rowCount (now sheet) 1 ≤ 32) ⌝ }
     ensures { λ r. ⌜ held r ≡ heldFor (solution-with method (gameOf (now (sheet .entry))) depth start) ⌝ }
 {
+    let mut hints = [0u16; 256];
     let mut links = [0u32; 64];
     let mut heads = [[0u32; 7]; 32];
     let mut payoffs = [[0.0f64; 8]; 32];
     solve_in(
         sheet,
+        &mut hints,
         &mut links,
         &mut heads,
         &mut payoffs,
@@ -260,11 +269,13 @@ fn solve_128(sheet: &[u8], method: Method, start: u32, depth: usize) -> Solved
     requires { ⌜ Opens (now sheet) × (depth ≤ 64) × (rowCount (now sheet) 0 ≤ 128) × (rowCount (now sheet) 1 ≤ 128) ⌝ }
     ensures { λ r. ⌜ held r ≡ heldFor (solution-with method (gameOf (now (sheet .entry))) depth start) ⌝ }
 {
+    let mut hints = [0u16; 1024];
     let mut links = [0u32; 256];
     let mut heads = [[0u32; 7]; 128];
     let mut payoffs = [[0.0f64; 8]; 128];
     solve_in(
         sheet,
+        &mut hints,
         &mut links,
         &mut heads,
         &mut payoffs,
@@ -279,11 +290,13 @@ fn solve_1024(sheet: &[u8], method: Method, start: u32, depth: usize) -> Solved
     requires { ⌜ Opens (now sheet) × (depth ≤ 64) × (rowCount (now sheet) 0 ≤ 1024) × (rowCount (now sheet) 1 ≤ 1024) ⌝ }
     ensures { λ r. ⌜ held r ≡ heldFor (solution-with method (gameOf (now (sheet .entry))) depth start) ⌝ }
 {
+    let mut hints = [0u16; 8192];
     let mut links = [0u32; 2048];
     let mut heads = [[0u32; 7]; 1024];
     let mut payoffs = [[0.0f64; 8]; 1024];
     solve_in(
         sheet,
+        &mut hints,
         &mut links,
         &mut heads,
         &mut payoffs,

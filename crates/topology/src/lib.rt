@@ -23,25 +23,25 @@ const VISITING: u8 = 1;
 const VISITED: u8 = 2;
 
 // Refusal 11 of an entity that is no node.
-fn check_node(sheet: &[u8], entity: u32) -> Check
+fn check_node(sheet: &[u8], hints: &[u16], entity: u32) -> Check
     requires { ⌜ Opens (now sheet) ⌝ }
     ensures { λ r. ⌜ faultOf r ≡ missing (gameOf (now (sheet .entry))) entity ⌝ }
 {
-    match sheet::find_node(sheet, entity) {
+    match sheet::find_node(sheet, hints, entity) {
         NodeFound::Found(_) => Check::Passed,
         NodeFound::Missing => refuse(11, entity as u64, 0, 0, 0),
     }
 }
 
 // Refusal 11 of the first row of section k whose target, at byte 8, is no node.
-fn check_targets_of(sheet: &[u8], k: usize) -> Check
+fn check_targets_of(sheet: &[u8], hints: &[u16], k: usize) -> Check
     requires { ⌜ Opens (now sheet) × (k < 10) × (12 ≤ width (now sheet) k) ⌝ }
     ensures { λ r. ⌜ faultOf r ≡ first (rowCount (now (sheet .entry)) k) (λ i. missing (gameOf (now (sheet .entry))) (field (now (sheet .entry)) k i 8)) ⌝ }
 {
     let n = layout::row_count(sheet, k);
     let mut i = 0;
     while i < n {
-        let v = check_node(sheet, layout::u32_field(sheet, k, i, 8));
+        let v = check_node(sheet, hints, layout::u32_field(sheet, k, i, 8));
         if let Check::Refused(_) = v {
             return v;
         }
@@ -51,23 +51,23 @@ fn check_targets_of(sheet: &[u8], k: usize) -> Check
 }
 
 // Refusal 11 of the root, then of the actions' targets, then of the chances'.
-fn check_targets(sheet: &[u8]) -> Check
+fn check_targets(sheet: &[u8], hints: &[u16]) -> Check
     requires { ⌜ Opens (now sheet) ⌝ }
     ensures { λ r. ⌜ faultOf r ≡ targetsFault (gameOf (now (sheet .entry))) ⌝ }
 {
-    let root = check_node(sheet, layout::root_of(sheet));
+    let root = check_node(sheet, hints, layout::root_of(sheet));
     if let Check::Refused(_) = root {
         return root;
     }
-    let actions = check_targets_of(sheet, 2);
+    let actions = check_targets_of(sheet, hints, 2);
     if let Check::Refused(_) = actions {
         return actions;
     }
-    check_targets_of(sheet, 3)
+    check_targets_of(sheet, hints, 3)
 }
 
 // Whether a child of the entity has a chance row.
-fn has_chance(sheet: &[u8], entity: u32) -> bool
+fn has_chance(sheet: &[u8], hints: &[u16], entity: u32) -> bool
     requires { ⌜ Opens (now sheet) ⌝ }
     ensures { λ r. ⌜ r ≡ anyChance (gameOf (now (sheet .entry))) (childrenOf entity (gameOf (now (sheet .entry)) .children)) ⌝ }
 {
@@ -78,7 +78,7 @@ fn has_chance(sheet: &[u8], entity: u32) -> bool
             i += 1;
             continue;
         };
-        if let ChanceFound::Found(_) = sheet::find_chance(sheet, child) {
+        if let ChanceFound::Found(_) = sheet::find_chance(sheet, hints, child) {
             return true;
         }
         i += 1;
@@ -87,17 +87,17 @@ fn has_chance(sheet: &[u8], entity: u32) -> bool
 }
 
 // Refusals 13 and 17 of a node of the kind.
-fn check_kind(sheet: &[u8], entity: u32, kind: Kind) -> Check
+fn check_kind(sheet: &[u8], hints: &[u16], entity: u32, kind: Kind) -> Check
     requires { ⌜ Opens (now sheet) ⌝ }
     ensures { λ r. ⌜ faultOf r ≡ kindFault (gameOf (now (sheet .entry))) entity (some kind) ⌝ }
 {
     match kind {
-        Kind::Terminal => match sheet::find_terminal(sheet, entity) {
+        Kind::Terminal => match sheet::find_terminal(sheet, hints, entity) {
             TerminalFound::Found(_) => Check::Passed,
             TerminalFound::Missing => refuse(13, entity as u64, 0, 0, 0),
         },
         Kind::Chance => {
-            if has_chance(sheet, entity) {
+            if has_chance(sheet, hints, entity) {
                 return Check::Passed;
             }
             refuse(17, entity as u64, 0, 0, 0)
@@ -108,14 +108,20 @@ fn check_kind(sheet: &[u8], entity: u32, kind: Kind) -> Check
 
 // The walk from an entity, with a mark for each node row: each node's children are walked once. `left` is the depth that is left:
 // more than there are nodes that are not on the way, so it is never spent.
-fn validate_reachable_node(sheet: &[u8], entity: u32, left: usize, marks: &mut [u8; 1024]) -> Check
+fn validate_reachable_node(
+    sheet: &[u8],
+    hints: &[u16],
+    entity: u32,
+    left: usize,
+    marks: &mut [u8; 1024],
+) -> Check
     requires { ⌜ Opens (now sheet) ⌝ }
     ensures { λ r. ⌜ Visits (now (sheet .entry)) left entity (now (marks .entry)) r (now (marks .exit)) ⌝ }
 {
     if left == 0 {
         return refuse(12, entity as u64, 0, 0, 0);
     }
-    let Found::At(row) = opening::find_row(sheet, 0, entity) else {
+    let Found::At(row) = lookup::find_row(sheet, hints, 0, entity) else {
         return refuse(11, entity as u64, 0, 0, 0);
     };
     if marks[row] == VISITING {
@@ -126,7 +132,7 @@ fn validate_reachable_node(sheet: &[u8], entity: u32, left: usize, marks: &mut [
     }
     let node = sheet::node_row(sheet, row);
     let kind = node.kind;
-    let v = check_kind(sheet, entity, kind);
+    let v = check_kind(sheet, hints, entity, kind);
     if let Check::Refused(_) = v {
         return v;
     }
@@ -138,7 +144,7 @@ fn validate_reachable_node(sheet: &[u8], entity: u32, left: usize, marks: &mut [
             i += 1;
             continue;
         };
-        let below = validate_reachable_node(sheet, child, left - 1, marks);
+        let below = validate_reachable_node(sheet, hints, child, left - 1, marks);
         if let Check::Refused(_) = below {
             return below;
         }
@@ -156,11 +162,13 @@ pub fn validate_extensive_form_topology(sheet: &[u8]) -> Check
     if let Check::Refused(_) = opened {
         return opened;
     }
-    let targets = check_targets(sheet);
+    let mut hints = [0u16; 4096];
+    lookup::note_rows(sheet, &mut hints);
+    let targets = check_targets(sheet, &hints);
     if let Check::Refused(_) = targets {
         return targets;
     }
     let mut marks = [0u8; 1024];
     let nodes = layout::row_count(sheet, 0);
-    validate_reachable_node(sheet, layout::root_of(sheet), nodes + 1, &mut marks)
+    validate_reachable_node(sheet, &hints, layout::root_of(sheet), nodes + 1, &mut marks)
 }

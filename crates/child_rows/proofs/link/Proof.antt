@@ -13,31 +13,31 @@ use Rattle.child_rows.proofs.link.Statement.{statement}
 use Rattle.child_rows.proofs.link.Tie as tie
 
 abbrev Inv-loop : tie.InvT-loop
-Inv-loop sheet links₀ n i₀ links i = (length links ≡ length links₀) × (i ≤ rowCount sheet 1) × LinkedFrom sheet i links
+Inv-loop sheet hints links₀ n i₀ links i = (length links ≡ length links₀) × (i ≤ rowCount sheet 1) × LinkedFrom sheet i links
 
 abbrev μ-loop : tie.MeasureT-loop
-μ-loop sheet links₀ n i₀ links i = i
+μ-loop sheet hints links₀ n i₀ links i = i
 
 row-count-requires : tie.Need-row-count-requires Inv-loop μ-loop
-row-count-requires c κs = (lit< tt, opens-layout _ ((c .before .before) .pre .0))
+row-count-requires c κs = (lit< tt, opens-layout _ ((c .before .before .before) .pre .0))
 
 row-count-requires-2 : tie.Need-row-count-requires-2 Inv-loop μ-loop
-row-count-requires-2 c κs = (lit< tt, opens-layout _ ((c .before .before .before .before) .pre .0))
+row-count-requires-2 c κs = (lit< tt, opens-layout _ ((c .before .before .before .before .before) .pre .0))
 
 cast-unlink : tie.Need-cast-unlink Inv-loop μ-loop
 unfolding rowLimit
-cast-unlink c = let p = (c .before .before .before .before .before) .pre in omega (arith, (c .before .before) .row-count .ensures, rows-most _ (opens-layout _ (p .0)) 1 (lit< tt))
+cast-unlink c = let p = (c .before .before .before .before .before .before) .pre in omega (arith, (c .before .before) .row-count .ensures, rows-most _ (opens-layout _ (p .0)) 1 (lit< tt))
 
 unlink-requires : tie.Need-unlink-requires Inv-loop μ-loop
-unlink-requires c κs = let p = (c .before .before .before .before .before) .pre in omega (arith, p .1, (c) .row-count2 .ensures)
+unlink-requires c κs = let p = (c .before .before .before .before .before .before) .pre in omega (arith, p .1, (c) .row-count2 .ensures)
 
 loop-holds : tie.Need-loop-holds Inv-loop μ-loop
 loop-holds c =
-    let p = (c .before .before .before .before .before .before .before .before) .pre in
+    let p = (c .before .before .before .before .before .before .before .before .before) .pre in
     let n = (c .before .before .before .before .before) .row-count .ensures in
     let f = (c .before .before) .unlink in
     let room = f .kept .0 in
-    let here : _≡_ {A = ℕ} ((c .before .before .before .before .before) .row-count .result) (rowCount ((c .before .before .before .before .before .before .before .before) .args .sheet .now) 1) = n in
+    let here : _≡_ {A = ℕ} ((c .before .before .before .before .before) .row-count .result) (rowCount ((c .before .before .before .before .before .before .before .before .before) .args .sheet .now) 1) = n in
     (refl, omega arith, rw here (unlinked _ _ (omega (arith, p .1)) (omega (arith, p .2)) (λ r h. f .ensures r (omega (arith, (c .before .before .before) .row-count2 .ensures)) ∙ n)))
 
 sub-i : tie.Need-sub-i Inv-loop μ-loop
@@ -48,7 +48,7 @@ link-row-requires c κs =
     let inv = (c .before .before) .loop .inv in
     let i = (c .before .before) .loop .i in
     let back : i - 1 + 1 ≡ i = omega arith in
-    ((c .before .before .before .before .before .before .before .before .before .before .before) .pre .0, omega (arith, inv), rw back (inv .2))
+    ((c .before .before .before .before .before .before .before .before .before .before .before .before) .pre .0, omega (arith, inv), rw back (inv .2))
 
 loop-less : tie.Need-loop-less Inv-loop μ-loop
 loop-less c = omega arith
@@ -57,7 +57,7 @@ loop-again : tie.Need-loop-again Inv-loop μ-loop
 loop-again c =
     let inv = (c .before .before .before .before .before) .loop .inv in
     let l = (c .before .before) .link-row in
-    (l .kept .1 .0 ∙ inv .0, omega (arith, inv), l .ensures)
+    (l .kept .1 .1 .0 ∙ inv .0, omega (arith, inv), l .ensures)
 
 same-length : tie.Need-same-length Inv-loop μ-loop
 same-length c = (c .before) .loop .inv .0 ∙ (c .before .before .before .before) .unlink .kept .0

@@ -17,17 +17,17 @@ use Rattle.child_rows.proofs.link_row.Statement.{statement}
 use Rattle.child_rows.proofs.link_row.Tie as tie
 
 -- what was searched for is the parent of row i
-by-parent : (c : tie.After-find-row) → (let s = c .before .before .before .before .args .sheet .now in
-    foundAt (c .find-row .result) ≡ findRow (width s 0) (section s 0) (rowCount s 0) (parentIn s (c .before .before .before .before .args .i)))
+by-parent : (c : tie.After-find-row) → (let s = c .before .before .before .before .before .args .sheet .now in
+    foundAt (c .find-row .result) ≡ findRow (width s 0) (section s 0) (rowCount s 0) (parentIn s (c .before .before .before .before .before .args .i)))
 unfolding childRow
 by-parent c = c .find-row .ensures ∙ ap (findRow _ _ _) (c .before .u32-field .ensures)
 
 -- the links of the parent's node row and of row i are there, and row numbers are small
-there : (c : tie.After-r) → (let a = c .before .before .before .before .before .before .args in
+there : (c : tie.After-r) → (let a = c .before .before .before .before .before .before .before .args in
     (c .r .given .0 .0 < 1024) × (a .i < 1024) × (2 * c .r .given .0 .0 < length (a .links .now)) × (2 * a .i + 1 < length (a .links .now)))
 unfolding rowLimit
 there c =
-    let p = c .before .before .before .before .before .before .pre in
+    let p = c .before .before .before .before .before .before .before .pre in
     let h = rooms _ _ _ (p .0) (p .1) (p .2) _ (by-parent (c .before .before)) _ (c .r .given .1) in (
       omega (arith, h, rows-most _ (opens-layout _ (p .0)) 0 (lit< tt)),
       omega (arith, p .1, rows-most _ (opens-layout _ (p .0)) 1 (lit< tt)),
@@ -37,11 +37,11 @@ there c =
 
 u32-field-requires : tie.Need-u32-field-requires
 unfolding width
-u32-field-requires c κs = let p = c .before .before .pre in search (needs, opens-layout)
+u32-field-requires c κs = let p = c .before .before .before .pre in search (needs, opens-layout)
 
 find-row-requires : tie.Need-find-row-requires
 unfolding hasEntity
-find-row-requires c κs = (c .before .before .before .pre .0, refl)
+find-row-requires c κs = (c .before .before .before .before .pre .0, refl)
 
 enum-known-r : tie.Need-enum-known-r
 enum-known-r c = search needs
@@ -50,7 +50,7 @@ enum-told : tie.Need-enum-told
 enum-told c = search needs
 
 returns : tie.Need-returns
-returns c = let p = c .before .before .before .before .before .before .pre in link-none _ _ _ (p .0) (p .1) (p .2) _ (by-parent (c .before .before)) (c .enum-told .given .1)
+returns c = let p = c .before .before .before .before .before .before .before .pre in link-none _ _ _ (p .0) (p .1) (p .2) _ (by-parent (c .before .before)) (c .enum-told .given .1)
 
 mul-links : tie.Need-mul-links
 mul-links c = omega (arith, there (c .before))
@@ -89,7 +89,7 @@ same-length : tie.Need-same-length
 same-length c = search needs
 
 returns-2 : tie.Need-returns-2
-returns-2 c = let p = c .before .before .before .before .before .before .before .before .pre in link-own _ _ _ (p .0) (p .1) (p .2) _ (by-parent (c .before .before .before .before)) _ (c .before .before .r .given .1)
+returns-2 c = let p = c .before .before .before .before .before .before .before .before .before .pre in link-own _ _ _ (p .0) (p .1) (p .2) _ (by-parent (c .before .before .before .before)) _ (c .before .before .r .given .1)
 
 pub link-row-spec : {M : Type 1} → statement M
 link-row-spec =

@@ -16,11 +16,11 @@ use Rattle.edges.proofs.outgoing_chance_outcomes.Statement.{statement}
 use Rattle.edges.proofs.outgoing_chance_outcomes.Tie as tie
 
 abbrev Inv-loop : tie.InvT-loop
-Inv-loop sheet source n i₀ i =
+Inv-loop sheet hints source n i₀ i =
     FaultFrom (chanceOutcomeIn (gameOf sheet) source) (childRow sheet) n (faultIn (outgoingChanceOutcomes (gameOf sheet) source)) i
 
 abbrev μ-loop : tie.MeasureT-loop
-μ-loop sheet source n i₀ i = n - i
+μ-loop sheet hints source n i₀ i = n - i
 
 row-count-requires : tie.Need-row-count-requires Inv-loop μ-loop
 row-count-requires c κs = search (needs, opens-layout)

@@ -20,15 +20,15 @@ use Rattle.entering.proofs.enter.Statement.{statement}
 use Rattle.entering.proofs.enter.Tie as tie
 
 -- the node's row, once it is found, and its kind, once it is read
-here : (c : tie.After-row) → NodeAt (c .before .before .before .before .before .before .args .sheet .now) (c .row .given .0 .0) (c .before .before .before .before .before .before .args .entity)
+here : (c : tie.After-row) → NodeAt (c .before .before .before .before .before .before .before .args .sheet .now) (c .row .given .0 .0) (c .before .before .before .before .before .before .before .args .entity)
 here c =
-    let a = c .before .before .before .before .before .before .args in
+    let a = c .before .before .before .before .before .before .before .args in
     let found = c .before .before .find-row in
     node-at (a .sheet .now) (a .entity) (found .result) (found .ensures) _ (c .row .given .1)
 
-kind-is : (c : tie.After-node-row) (k : Kind) → c .node-row .result .kind ≡ k → kindOf (gameOf (c .before .before .before .before .before .before .before .before .before .before .before .args .sheet .now)) (c .before .before .before .before .before .before .before .before .before .before .before .args .entity) ≡ some k
+kind-is : (c : tie.After-node-row) (k : Kind) → c .node-row .result .kind ≡ k → kindOf (gameOf (c .before .before .before .before .before .before .before .before .before .before .before .before .args .sheet .now)) (c .before .before .before .before .before .before .before .before .before .before .before .before .args .entity) ≡ some k
 kind-is c k q =
-    let a = c .before .before .before .before .before .before .before .before .before .before .before .args in
+    let a = c .before .before .before .before .before .before .before .before .before .before .before .before .args in
     let found = c .before .before .before .before .before .before .before .find-row in
     let read = sym (ap (λ (n : Node). n .kind) (c .node-row .ensures)) ∙ q in
     node-kind (a .sheet .now) (a .entity) (found .result) (found .ensures) _ (c .before .before .before .before .before .row .given .1) ∙ ap some read
@@ -38,13 +38,13 @@ refused-requires c κs = search needs
 
 returns : tie.Need-returns
 returns c =
-    let start = c .before .before .before .before in
+    let start = c .before .before .before .before .before in
     let a = start .args in
     record { memo = start .pre .memo; extends = λ i h. h; entered = rw (c .refused .ensures) (no-depth (a .method) (a .sheet .now) (a .entity) (a .left) (c .before .if1 .taken)) }
 
 find-row-requires : tie.Need-find-row-requires
 unfolding hasEntity
-find-row-requires c κs = (c .before .before .before .pre .opens, refl)
+find-row-requires c κs = (c .before .before .before .before .pre .opens, refl)
 
 enum-known-row : tie.Need-enum-known-row
 enum-known-row c = search needs
@@ -57,7 +57,7 @@ refused-requires-2 c κs = search needs
 
 returns-2 : tie.Need-returns-2
 returns-2 c =
-    let start = c .before .before .before .before .before .before .before in
+    let start = c .before .before .before .before .before .before .before .before in
     let a = start .args in
     let some-left = c .before .before .before .before .if1 .left in
     let found = c .before .before .before .find-row in
@@ -65,38 +65,38 @@ returns-2 c =
     record { memo = start .pre .memo; extends = λ i h. h; entered = rw (c .refused2 .ensures) (no-node (a .method) (a .sheet .now) (a .entity) (a .left) (omega arith) missing) }
 
 is-known-requires : tie.Need-is-known-requires
-is-known-requires c κs = c .before .before .before .before .before .before .before .before .pre .memo .within _ (here (c .before .before) .here) .heads
+is-known-requires c κs = c .before .before .before .before .before .before .before .before .before .pre .memo .within _ (here (c .before .before) .here) .heads
 
 same-length : tie.Need-same-length
 same-length c = search needs
 
 returns-3 : tie.Need-returns-3
 returns-3 c =
-    let start = c .before .before .before .before .before .before .before .before .before .before in
+    let start = c .before .before .before .before .before .before .before .before .before .before .before in
     let a = start .args in
     let m = rows (a .heads .now) (a .payoffs .now) in
     record { memo = start .pre .memo; extends = λ i h. h; entered = known-visited m (here (c .before .before .before .before)) (sym (c .before .is-known .ensures) ∙ c .if2 .taken) }
 
 node-row-requires : tie.Need-node-row-requires
-node-row-requires c κs = (c .before .before .before .before .before .before .before .before .before .before .pre .opens, here (c .before .before .before .before) .here)
+node-row-requires c κs = (c .before .before .before .before .before .before .before .before .before .before .before .pre .opens, here (c .before .before .before .before) .here)
 
 enum-told-2 : tie.Need-enum-told-2
 enum-told-2 c = search needs
 
 solve-terminal-requires : tie.Need-solve-terminal-requires
-solve-terminal-requires c κs = let p = c .before .before .before .before .before .before .before .before .before .before .before .before .before .before .before .pre in (p .opens, p .memo .within _ (here (c .before .before .before .before .before .before .before .before .before) .here))
+solve-terminal-requires c κs = let p = c .before .before .before .before .before .before .before .before .before .before .before .before .before .before .before .before .pre in (p .opens, p .memo .within _ (here (c .before .before .before .before .before .before .before .before .before) .here))
 
 enum-known-kind : tie.Need-enum-known-kind
 enum-known-kind c = search needs
 
 enter-decision-requires : tie.Need-enter-decision-requires
-enter-decision-requires c κs = let p = c .before .before .before .before .before .before .before .before .before .before .before .before .before .before .pre in (p .opens, p .linked, here (c .before .before .before .before .before .before .before .before), kind-is (c .before .before .before) _ (c .before .kind .given .1))
+enter-decision-requires c κs = let p = c .before .before .before .before .before .before .before .before .before .before .before .before .before .before .before .pre in (p .opens, p .linked, here (c .before .before .before .before .before .before .before .before), kind-is (c .before .before .before) _ (c .before .kind .given .1))
 
 enum-told-3 : tie.Need-enum-told-3
 enum-told-3 c = search needs
 
 enter-chance-requires : tie.Need-enter-chance-requires
-enter-chance-requires c κs = let p = c .before .before .before .before .before .before .before .before .before .before .before .before .before .pre in (p .opens, p .linked, here (c .before .before .before .before .before .before .before), kind-is (c .before .before) _ (c .enum-told3 .given .1))
+enter-chance-requires c κs = let p = c .before .before .before .before .before .before .before .before .before .before .before .before .before .before .pre in (p .opens, p .linked, here (c .before .before .before .before .before .before .before), kind-is (c .before .before) _ (c .enum-told3 .given .1))
 
 same-length-2 : tie.Need-same-length-2
 same-length-2 c = search needs
@@ -106,14 +106,14 @@ same-length-3 c = search needs
 
 returns-4 : tie.Need-returns-4
 returns-4 c =
-    let start = c .before .before .before .before .before .before .before .before .before .before .before .before .before .before .before .before .before .before in
+    let start = c .before .before .before .before .before .before .before .before .before .before .before .before .before .before .before .before .before .before .before in
     let a = start .args in
     let some-left = c .before .before .before .before .before .before .before .before .before .before .before .before .before .before .before .if1 .left in
     let node = here (c .before .before .before .before .before .before .before .before .before .before .before .before) in
     let kind = kind-is (c .before .before .before .before .before .before .before) Kinds.Terminal (c .before .before .before .before .before .enum-told2 .given .1) in
     let t = c .before .before .solve-terminal in
     let m = rows (a .heads .now) (a .payoffs .now) in
-    let m′ = rows (t .last .1 .0) (t .last .1 .1 .0) in
+    let m′ = rows (t .last .1 .1 .0) (t .last .1 .1 .1 .0) in
     let near : 1 ≤ a .left = omega arith in
     let f = solve (a .method) (gameOf (a .sheet .now)) 0 in
     let v = kept-visits m m′ (start .pre .memo) (node .here) (node .entity) near (lit< tt) (atKind (a .method) (gameOf (a .sheet .now)) f (a .entity) Kinds.Terminal) (t .ensures (a .method) f) (at-terminal (a .method) (a .sheet .now) (a .entity) kind f) in
@@ -124,7 +124,7 @@ same-length-4 c = search needs
 
 returns-5 : tie.Need-returns-5
 returns-5 c =
-    let start = c .before .before .before .before .before .before .before .before .before .before .before .before .before .before .before in
+    let start = c .before .before .before .before .before .before .before .before .before .before .before .before .before .before .before .before in
     let a = start .args in
     let some-left = c .before .before .before .before .before .before .before .before .before .before .before .before .if1 .left in
     let m = rows (a .heads .now) (a .payoffs .now) in
@@ -135,7 +135,7 @@ same-length-5 c = search needs
 
 returns-6 : tie.Need-returns-6
 returns-6 c =
-    let start = c .before .before .before .before .before .before .before .before .before .before .before .before .before .before in
+    let start = c .before .before .before .before .before .before .before .before .before .before .before .before .before .before .before in
     let a = start .args in
     let some-left = c .before .before .before .before .before .before .before .before .before .before .before .if1 .left in
     let m = rows (a .heads .now) (a .payoffs .now) in

@@ -8,11 +8,11 @@ use Rattle.entering.proofs.enter_decision.Statement.{statement}
 use Rattle.entering.proofs.enter_decision.Tie as tie
 
 first-child-requires : tie.Need-first-child-requires
-first-child-requires c κs = let p = c .before .before .pre in first-room (p .1) (p .2)
+first-child-requires c κs = let p = c .before .before .before .pre in first-room (p .1) (p .2)
 
 linked-action-edges-requires : tie.Need-linked-action-edges-requires
 linked-action-edges-requires c κs =
-    let p = c .before .before .before .pre in
+    let p = c .before .before .before .before .pre in
     let to = c .first-child .ensures in
     (p .0, first-child (p .1) (p .2) to, first-chain (p .1) (p .2) to)
 
@@ -24,12 +24,12 @@ enum-told c = search needs
 
 returns : tie.Need-returns
 returns c =
-    let p = c .before .before .before .before .before .before .before .pre in
+    let p = c .before .before .before .before .before .before .before .before .pre in
     λ method m left h. decision-refused method (p .2) (p .3) m left h _ (sym (ap faultOf (c .before .r .given .1)) ∙ c .before .before .before .linked-action-edges .ensures)
 
 returns-2 : tie.Need-returns-2
 returns-2 c =
-    let p = c .before .before .before .before .before .before .pre in
+    let p = c .before .before .before .before .before .before .before .pre in
     λ method m left h. decision-starts method (p .2) (p .3) m left h (sym (ap faultOf (c .enum-told .given .1)) ∙ c .before .before .linked-action-edges .ensures)
 
 pub enter-decision-spec : {M : Type 1} → statement M

@@ -22,19 +22,19 @@ refused-requires c κs = search needs
 
 returns : tie.Need-returns
 returns c =
-    let a = c .before .before .before .before .before .args in
+    let a = c .before .before .before .before .before .before .args in
     terminal-missing (a .sheet .now) (a .entity) (a .row) (rows (a .heads .now) (a .payoffs .now)) (c .refused .result) (sym (c .before .before .before .find-terminal .ensures .0) ∙ ap (terminalFound (a .sheet .now)) (c .before .enum-told .given .1)) (c .refused .ensures)
 
 payoffs-from-requires : tie.Need-payoffs-from-requires
 payoffs-from-requires c κs =
-    let start = c .before .before .before .before .before in
+    let start = c .before .before .before .before .before .before in
     let after-find-terminal = c .before .before .before in
     let after-t = c .before in
     let b = subst (InSheet (start .args .sheet .now)) (after-t .t .given .1) (after-find-terminal .find-terminal .ensures .1) in (start .pre .0, b .0, b .2)
 
-cast-t12 : tie.Need-cast-t12
-cast-t12 c =
-    let start = c .before .before .before .before .before .before in
+cast-t13 : tie.Need-cast-t13
+cast-t13 c =
+    let start = c .before .before .before .before .before .before .before in
     let after-find-terminal = c .before .before .before .before in
     let after-t = c .before .before in
     let b = subst (InSheet (start .args .sheet .now)) (after-t .t .given .1) (after-find-terminal .find-terminal .ensures .1) in omega arith
@@ -50,7 +50,7 @@ same-length-2 c = search needs
 
 returns-2 : tie.Need-returns-2
 returns-2 c =
-    let start = c .before .before .before .before .before .before .before .before .before .before .before in
+    let start = c .before .before .before .before .before .before .before .before .before .before .before .before in
     let after-find-terminal = c .before .before .before .before .before .before .before .before .before in
     let after-t = c .before .before .before .before .before .before .before in
     let after-payoffs-from = c .before .before .before .before .before in
@@ -72,7 +72,7 @@ solve-terminal-spec =
     refused-requires
     returns
     payoffs-from-requires
-    cast-t12
+    cast-t13
     store-requires
     same-length
     same-length-2

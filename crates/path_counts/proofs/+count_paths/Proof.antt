@@ -25,29 +25,29 @@ use Rattle.path_counts.proofs.tallied.Reads as tallied-reads
 use Rattle.path_counts.proofs.+count_paths.{statement}
 use Rattle.path_counts.proofs.+count_paths.Tie.{close}
 
-abbrev μ : Measures 2 kinds.ps ℕ
-μ κs a = a .1 .1 .1 .0
+abbrev μ : Measures 3 kinds.ps ℕ
+μ κs a = a .1 .1 .1 .1 .0
 
-abbrev entry : ℕ → In 2 kinds.ps
+abbrev entry : ℕ → In 3 kinds.ps
 entry t =
-    and 2 kinds.ps (is 2 kinds.ps μ t) reads.Pre
+    and 3 kinds.ps (is 3 kinds.ps μ t) reads.Pre
 
-abbrev below : ℕ → In 2 kinds.ps
+abbrev below : ℕ → In 3 kinds.ps
 below t =
-    and 2 kinds.ps (falls 2 kinds.ps _<_ μ t) reads.Pre
+    and 3 kinds.ps (falls 3 kinds.ps _<_ μ t) reads.Pre
 
 -- what the calls ask and tell, the recursive one at a smaller measure
 abbrev calls : ℕ → lts.Claims
 calls t = (enter-reads.Asked, enter-reads.Learnt, row-count-reads.Asked, row-count-reads.Learnt, action-edge-reads.Asked, action-edge-reads.Learnt, below t, reads.Post, tallied-reads.Asked, tallied-reads.Learnt, keep-tally-reads.Asked, keep-tally-reads.Learnt)
 
 abbrev Inv-loop : lts.InvT-loop
-Inv-loop sheet memo₀ entity left row n tally₀ i₀ memo tally i = Memo sheet memo × (length memo ≡ length memo₀) × RowOf sheet entity row × Following sheet entity left n i tally
+Inv-loop sheet hints memo₀ entity left row n tally₀ i₀ memo tally i = Memo sheet memo × (length memo ≡ length memo₀) × RowOf sheet entity row × Following sheet entity left n i tally
 
 abbrev μ-loop : lts.MeasureT-loop
-μ-loop sheet memo₀ entity left row n tally₀ i₀ memo tally i = n - i
+μ-loop sheet hints memo₀ entity left row n tally₀ i₀ memo tally i = n - i
 
 enter-requires : (t : ℕ) → lts.Need-enter-requires (calls t) (entry t) reads.Post Inv-loop μ-loop
-enter-requires t c κs = (c .before .before .pre .1 .0, c .before .before .pre .1 .2)
+enter-requires t c κs = (c .before .before .before .pre .1 .0, c .before .before .before .pre .1 .2)
 
 enum-known-entered : (t : ℕ) → lts.Need-enum-known-entered (calls t) (entry t) reads.Post Inv-loop μ-loop
 enum-known-entered t c = search needs
@@ -85,7 +85,7 @@ sub-count-paths t c = omega (arith, c .before .before .before .before .before .b
 
 count-paths-requires : (t : ℕ) → lts.Need-count-paths-requires (calls t) (entry t) reads.Post Inv-loop μ-loop
 count-paths-requires t c κs =
-    let z = c .before .before .before .before .before .before .before .before .before .before .before .before .before .before .before .pre in
+    let z = c .before .before .before .before .before .before .before .before .before .before .before .before .before .before .before .before .pre in
     let inv = c .before .before .before .before .before .before .loop .inv in
     (omega (arith, z .0, inv .3 .near), (z .1 .0, omega (arith, z .1 .1), inv .0))
 
@@ -96,7 +96,7 @@ enum-told : (t : ℕ) → lts.Need-enum-told (calls t) (entry t) reads.Post Inv-
 enum-told t c = search needs
 
 same-length : (t : ℕ) → lts.Need-same-length (calls t) (entry t) reads.Post Inv-loop μ-loop
-same-length t c = c .before .before .before .count-paths .kept .1 .0 ∙ c .before .before .before .before .before .before .before .before .before .before .loop .inv .1 ∙ c .before .before .before .before .before .before .before .before .before .before .before .before .before .before .before .before .enter .kept .1 .0
+same-length t c = c .before .before .before .count-paths .kept .1 .1 .0 ∙ c .before .before .before .before .before .before .before .before .before .before .loop .inv .1 ∙ c .before .before .before .before .before .before .before .before .before .before .before .before .before .before .before .before .enter .kept .1 .1 .0
 
 returns : (t : ℕ) → lts.Need-returns (calls t) (entry t) reads.Post Inv-loop μ-loop
 returns t c =
@@ -123,26 +123,26 @@ loop-again-2 t c =
     let found = visited-counted visits _ (c .before .before .before .v .given .1) in
     let edge = sym (ap actionStep (c .before .before .before .before .before .before .before .before .before .step .given .1)) ∙ c .before .before .before .before .before .before .before .before .before .before .before .action-edge .ensures in
     let inv = c .before .before .before .before .before .before .before .before .before .before .before .before .before .loop .inv in
-    (visits .memo, c .before .before .before .before .before .before .count-paths .kept .1 .0 ∙ inv .1, inv .2, rw (c .tallied .ensures) (goes (inv .3) (c .before .before .before .before .before .before .before .before .before .before .before .before .loop-test .taken) _ edge (visits .memo) found))
+    (visits .memo, c .before .before .before .before .before .before .count-paths .kept .1 .1 .0 ∙ inv .1, inv .2, rw (c .tallied .ensures) (goes (inv .3) (c .before .before .before .before .before .before .before .before .before .before .before .before .loop-test .taken) _ edge (visits .memo) found))
 
 keep-tally-requires : (t : ℕ) → lts.Need-keep-tally-requires (calls t) (entry t) reads.Post Inv-loop μ-loop
 keep-tally-requires t c κs =
     let inv = c .before .before .loop .inv in
-    (row-within (inv .0) (inv .2), omega (arith, inv .3 .near, c .before .before .before .before .before .before .before .before .before .before .before .pre .1 .1))
+    (row-within (inv .0) (inv .2), omega (arith, inv .3 .near, c .before .before .before .before .before .before .before .before .before .before .before .before .pre .1 .1))
 
 same-length-2 : (t : ℕ) → lts.Need-same-length-2 (calls t) (entry t) reads.Post Inv-loop μ-loop
-same-length-2 t c = c .before .before .before .before .enter .kept .1 .0
+same-length-2 t c = c .before .before .before .before .enter .kept .1 .1 .0
 
 returns-2 : (t : ℕ) → lts.Need-returns-2 (calls t) (entry t) reads.Post Inv-loop μ-loop
 returns-2 t c = entered-done (c .before .before .before .before .enter .ensures) _ (c .before .entered .given .1)
 
 same-length-3 : (t : ℕ) → lts.Need-same-length-3 (calls t) (entry t) reads.Post Inv-loop μ-loop
-same-length-3 t c = c .before .keep-tally .kept .0 ∙ c .before .before .before .before .loop .inv .1 ∙ c .before .before .before .before .before .before .before .before .before .before .enter .kept .1 .0
+same-length-3 t c = c .before .keep-tally .kept .0 ∙ c .before .before .before .before .loop .inv .1 ∙ c .before .before .before .before .before .before .before .before .before .before .enter .kept .1 .1 .0
 
 returns-3 : (t : ℕ) → lts.Need-returns-3 (calls t) (entry t) reads.Post Inv-loop μ-loop
 returns-3 t c =
     let inv = c .before .before .before .before .loop .inv in
-    kept (inv .3) (c .before .before .before .loop-test .left) (inv .0) (inv .2) (c .before .before .before .before .before .before .before .before .before .before .before .before .before .pre .1 .1) (c .before .keep-tally .ensures)
+    kept (inv .3) (c .before .before .before .loop-test .left) (inv .0) (inv .2) (c .before .before .before .before .before .before .before .before .before .before .before .before .before .before .pre .1 .1) (c .before .keep-tally .ensures)
 
 pub +count-paths-spec : {M : Type 1} → statement M
 +count-paths-spec = close μ λ t. lts.spec (calls t)

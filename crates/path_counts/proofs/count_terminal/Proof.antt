@@ -19,10 +19,10 @@ refused-requires : tie.Need-refused-requires
 refused-requires c κs = search needs
 
 returns : tie.Need-returns
-returns c = λ left deep. refused-visits (c .before .before .before .before .before .pre .1) (c .refused .ensures) (terminal-refused _ _ (c .before .before .before .before .before .pre .3) _ (c .before .before .before .find-terminal .ensures) (c .before .enum-told .given .1) left deep)
+returns c = λ left deep. refused-visits (c .before .before .before .before .before .before .pre .1) (c .refused .ensures) (terminal-refused _ _ (c .before .before .before .before .before .before .pre .3) _ (c .before .before .before .find-terminal .ensures) (c .before .enum-told .given .1) left deep)
 
 add-counts : tie.Need-add-counts
-add-counts c = omega (arith, terminal-few _ _ (c .before .before .before .before .before .before .pre .3) _ (c .before .before .before .before .find-terminal .ensures) _ (c .before .before .t .given .1))
+add-counts c = omega (arith, terminal-few _ _ (c .before .before .before .before .before .before .before .pre .3) _ (c .before .before .before .before .find-terminal .ensures) _ (c .before .before .t .given .1))
 
 mul-counts : tie.Need-mul-counts
 mul-counts c = search needs
@@ -34,7 +34,7 @@ same-length : tie.Need-same-length
 same-length c = search needs
 
 returns-2 : tie.Need-returns-2
-returns-2 c = λ left deep. kept-visits (c .before .before .before .before .before .before .pre .1) (c .before .before .before .before .before .before .pre .2) _ (terminal-right _ _ (c .before .before .before .before .before .before .pre .3) _ (c .before .before .before .before .find-terminal .ensures) _ (c .before .before .t .given .1)) left (omega arith) deep
+returns-2 c = λ left deep. kept-visits (c .before .before .before .before .before .before .before .pre .1) (c .before .before .before .before .before .before .before .pre .2) _ (terminal-right _ _ (c .before .before .before .before .before .before .before .pre .3) _ (c .before .before .before .before .find-terminal .ensures) _ (c .before .before .t .given .1)) left (omega arith) deep
 
 pub count-terminal-spec : {M : Type 1} → statement M
 count-terminal-spec =

@@ -15,7 +15,7 @@ refused-requires : tie.Need-refused-requires
 refused-requires c κs = search needs
 
 returns : tie.Need-returns
-returns c = refused-visits (c .before .before .before .pre .1) (c .refused .ensures) (rw (c .before .if1 .taken) (depth-spent _ _))
+returns c = refused-visits (c .before .before .before .before .pre .1) (c .refused .ensures) (rw (c .before .if1 .taken) (depth-spent _ _))
 
 find-row-requires : tie.Need-find-row-requires
 unfolding hasEntity
@@ -32,21 +32,21 @@ refused-requires-2 c κs = search needs
 
 returns-2 : tie.Need-returns-2
 returns-2 c =
-    refused-visits (c .before .before .before .before .before .before .pre .1) (c .refused2 .ensures)
-    (above-zero (λ d. paths (gameOf (c .before .before .before .before .before .before .args .sheet .now)) d (c .before .before .before .before .before .before .args .entity)) (c .before .before .before .before .before .before .args .left) (omega arith)
+    refused-visits (c .before .before .before .before .before .before .before .pre .1) (c .refused2 .ensures)
+    (above-zero (λ d. paths (gameOf (c .before .before .before .before .before .before .before .args .sheet .now)) d (c .before .before .before .before .before .before .before .args .entity)) (c .before .before .before .before .before .before .before .args .left) (omega arith)
     ∙ node-missing _ _ _ (missing-kind _ _ _ (c .before .before .before .find-row .ensures) (c .before .enum-told .given .1)))
 
 is-known-requires : tie.Need-is-known-requires
-is-known-requires c κs = row-within (c .before .before .before .before .before .before .before .pre .1) (found-row _ _ _ (c .before .before .before .before .find-row .ensures) _ (c .before .before .row .given .1))
+is-known-requires c κs = row-within (c .before .before .before .before .before .before .before .before .pre .1) (found-row _ _ _ (c .before .before .before .before .find-row .ensures) _ (c .before .before .row .given .1))
 
 same-length : tie.Need-same-length
 same-length c = search needs
 
 returns-3 : tie.Need-returns-3
-returns-3 c = known-visits (c .before .before .before .before .before .before .before .before .before .pre .1) (found-row _ _ _ (c .before .before .before .before .before .before .find-row .ensures) _ (c .before .before .before .before .row .given .1)) _ (sym (c .if2 .taken) ∙ c .before .is-known .ensures)
+returns-3 c = known-visits (c .before .before .before .before .before .before .before .before .before .before .pre .1) (found-row _ _ _ (c .before .before .before .before .before .before .find-row .ensures) _ (c .before .before .before .before .row .given .1)) _ (sym (c .if2 .taken) ∙ c .before .is-known .ensures)
 
 node-row-requires : tie.Need-node-row-requires
-node-row-requires c κs = (c .before .before .before .before .before .before .before .before .before .pre .0, found-row _ _ _ (c .before .before .before .before .before .before .find-row .ensures) _ (c .before .before .before .before .row .given .1) .row)
+node-row-requires c κs = (c .before .before .before .before .before .before .before .before .before .before .pre .0, found-row _ _ _ (c .before .before .before .before .before .before .find-row .ensures) _ (c .before .before .before .before .row .given .1) .row)
 
 enum-told-2 : tie.Need-enum-told-2
 enum-told-2 c = search needs
@@ -55,7 +55,7 @@ count-terminal-requires : tie.Need-count-terminal-requires
 count-terminal-requires c κs =
     let own = found-row _ _ _ (c .before .before .before .before .before .before .before .before .before .before .find-row .ensures) _ (c .before .before .before .before .before .before .before .before .row .given .1) in
     let kind = found-kind _ _ _ (c .before .before .before .before .before .before .before .before .before .before .find-row .ensures) _ (c .before .before .before .before .before .before .before .before .row .given .1) _ (c .before .before .before .node-row .ensures) _ (c .before .enum-told2 .given .1) in
-    (c .before .before .before .before .before .before .before .before .before .before .before .before .before .pre .0, c .before .before .before .before .before .before .before .before .before .before .before .before .before .pre .1, own, kind)
+    (c .before .before .before .before .before .before .before .before .before .before .before .before .before .before .pre .0, c .before .before .before .before .before .before .before .before .before .before .before .before .before .before .pre .1, own, kind)
 
 enum-told-3 : tie.Need-enum-told-3
 enum-told-3 c = search needs
@@ -64,7 +64,7 @@ enter-inner-requires : tie.Need-enter-inner-requires
 enter-inner-requires c κs =
     let own = found-row _ _ _ (c .before .before .before .before .before .before .before .before .before .find-row .ensures) _ (c .before .before .before .before .before .before .before .row .given .1) in
     let kind = found-kind _ _ _ (c .before .before .before .before .before .before .before .before .before .find-row .ensures) _ (c .before .before .before .before .before .before .before .row .given .1) _ (c .before .before .node-row .ensures) _ (c .enum-told3 .given .1) in
-    (c .before .before .before .before .before .before .before .before .before .before .before .before .pre .0, own, decision-continues _ _ _ kind)
+    (c .before .before .before .before .before .before .before .before .before .before .before .before .before .pre .0, own, decision-continues _ _ _ kind)
 
 enum-told-4 : tie.Need-enum-told-4
 enum-told-4 c = search needs
@@ -73,7 +73,7 @@ enter-inner-requires-2 : tie.Need-enter-inner-requires-2
 enter-inner-requires-2 c κs =
     let own = found-row _ _ _ (c .before .before .before .before .before .before .before .before .before .find-row .ensures) _ (c .before .before .before .before .before .before .before .row .given .1) in
     let kind = found-kind _ _ _ (c .before .before .before .before .before .before .before .before .before .find-row .ensures) _ (c .before .before .before .before .before .before .before .row .given .1) _ (c .before .before .node-row .ensures) _ (c .enum-told4 .given .1) in
-    (c .before .before .before .before .before .before .before .before .before .before .before .before .pre .0, own, chance-continues _ _ kind)
+    (c .before .before .before .before .before .before .before .before .before .before .before .before .before .pre .0, own, chance-continues _ _ kind)
 
 same-length-2 : tie.Need-same-length-2
 same-length-2 c = search needs
@@ -85,13 +85,13 @@ same-length-3 : tie.Need-same-length-3
 same-length-3 c = search needs
 
 returns-5 : tie.Need-returns-5
-returns-5 c = c .enter-inner .ensures _ _ (c .before .before .before .before .before .before .before .before .before .before .before .before .before .pre .1) (omega arith)
+returns-5 c = c .enter-inner .ensures _ _ (c .before .before .before .before .before .before .before .before .before .before .before .before .before .before .pre .1) (omega arith)
 
 same-length-4 : tie.Need-same-length-4
 same-length-4 c = search needs
 
 returns-6 : tie.Need-returns-6
-returns-6 c = c .enter-inner2 .ensures _ _ (c .before .before .before .before .before .before .before .before .before .before .before .before .before .pre .1) (omega arith)
+returns-6 c = c .enter-inner2 .ensures _ _ (c .before .before .before .before .before .before .before .before .before .before .before .before .before .before .pre .1) (omega arith)
 
 pub enter-spec : {M : Type 1} → statement M
 enter-spec =

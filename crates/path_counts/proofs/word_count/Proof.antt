@@ -10,7 +10,7 @@ slice-aggregate-count-paths : tie.Need-slice-aggregate-count-paths
 slice-aggregate-count-paths c = search needs
 
 count-paths-requires : tie.Need-count-paths-requires
-count-paths-requires c κs = (c .before .before .pre .0, c .before .before .pre .1, empty-memo _ (c .before .before .pre .0))
+count-paths-requires c κs = (c .before .before .before .pre .0, c .before .before .before .pre .1, empty-memo _ (c .before .before .before .pre .0))
 
 enum-known-r : tie.Need-enum-known-r
 enum-known-r c = search needs
@@ -19,13 +19,13 @@ enum-known-row : tie.Need-enum-known-row
 enum-known-row c = search needs
 
 mul-counts : tie.Need-mul-counts
-mul-counts c = omega (arith, visited-counted (c .before .before .before .before .count-paths .ensures) _ (c .before .row .given .1) .own .row, few-nodes _ (c .before .before .before .before .before .before .before .pre .0))
+mul-counts c = omega (arith, visited-counted (c .before .before .before .before .count-paths .ensures) _ (c .before .row .given .1) .own .row, few-nodes _ (c .before .before .before .before .before .before .before .before .pre .0))
 
 array-copy-out-counts : tie.Need-array-copy-out-counts
-array-copy-out-counts c = omega (arith, visited-counted (c .before .before .before .before .count-paths .ensures) _ (c .before .row .given .1) .own .row, few-nodes _ (c .before .before .before .before .before .before .before .pre .0))
+array-copy-out-counts c = omega (arith, visited-counted (c .before .before .before .before .count-paths .ensures) _ (c .before .row .given .1) .own .row, few-nodes _ (c .before .before .before .before .before .before .before .before .pre .0))
 
-array-read-t13 : tie.Need-array-read-t13
-array-read-t13 c = search needs
+array-read-t14 : tie.Need-array-read-t14
+array-read-t14 c = search needs
 
 returns : tie.Need-returns
 returns c = size-refused (c .before .before .before .before .count-paths .ensures) _ (c .before .r .given .1)
@@ -43,6 +43,6 @@ word-count-spec =
     enum-known-row
     mul-counts
     array-copy-out-counts
-    array-read-t13
+    array-read-t14
     returns
     returns-2)

@@ -12,6 +12,15 @@ use Rattle.paths.proofs.list_paths.Tie as tie
 small : (c : tie.Start) → length (c .args .out .now) < cap
 small c = omega (arith, c .good)
 
+slice-aggregate-note-rows : tie.Need-slice-aggregate-note-rows
+slice-aggregate-note-rows c = search needs
+
+note-rows-requires : tie.Need-note-rows-requires
+note-rows-requires c κs = search needs
+
+slice-aggregate-word-count : tie.Need-slice-aggregate-word-count
+slice-aggregate-word-count c = search needs
+
 word-count-requires : tie.Need-word-count-requires
 word-count-requires c κs = search needs
 
@@ -30,10 +39,14 @@ returns c = too-short _ _ _ _ _ (c .before .before .before .before .before .word
 slice-aggregate-write-paths : tie.Need-slice-aggregate-write-paths
 slice-aggregate-write-paths c = search needs
 
+slice-aggregate-write-paths-2 : tie.Need-slice-aggregate-write-paths-2
+slice-aggregate-write-paths-2 c = search needs
+
 write-paths-requires : tie.Need-write-paths-requires
 write-paths-requires c κs =
-    let fit = all-fit _ _ _ (c .before .before .before .before .before .before .before .before .before .args .out .now) _ (c .before .before .before .before .before .before .word-count .ensures) _ (c .before .before .before .before .words .given .1) (c .before .before .if1 .left) (small (c .before .before .before .before .before .before .before .before .before)) in
-    (c .before .before .before .before .before .before .before .before .before .pre .0, fit .0, omega (arith, c .before .before .before .before .before .before .before .before .before .pre .1), fit .1)
+    let start = c .before .before .before .before .before .before .before .before .before .before .before .before .before .before in
+    let fit = all-fit _ _ _ (start .args .out .now) _ (c .before .before .before .before .before .before .before .word-count .ensures) _ (c .before .before .before .before .before .words .given .1) (c .before .before .before .if1 .left) (small start) in
+    (start .pre .0, fit .0, omega (arith, start .pre .1), fit .1)
 
 returns-2 : tie.Need-returns-2
 returns-2 c = fault-first _ _ _ _ _ (c .before .before .before .word-count .ensures) _ (c .before .r .given .1)
@@ -44,18 +57,22 @@ same-length c = search needs
 returns-3 : tie.Need-returns-3
 returns-3 c =
     let call = c .before .before .before .write-paths .ensures in
-    all-listed _ _ _ _ _ (c .before .before .before .before .before .before .before .before .before .before .word-count .ensures) _ (c .before .before .before .before .before .before .before .before .words .given .1) (c .before .before .before .before .before .before .if1 .left) (small (c .before .before .before .before .before .before .before .before .before .before .before .before .before)) _ _ (call .0, call .1)
+    all-listed _ _ _ _ _ (c .before .before .before .before .before .before .before .before .before .before .before .word-count .ensures) _ (c .before .before .before .before .before .before .before .before .before .words .given .1) (c .before .before .before .before .before .before .before .if1 .left) (small (c .before .before .before .before .before .before .before .before .before .before .before .before .before .before .before .before .before .before)) _ _ (call .0, call .1)
 
 pub list-paths-spec : {M : Type 1} → statement M
 list-paths-spec =
     tie.close
     (tie.spec
+    slice-aggregate-note-rows
+    note-rows-requires
+    slice-aggregate-word-count
     word-count-requires
     enum-known-r
     enum-known-words
     refused-requires
     returns
     slice-aggregate-write-paths
+    slice-aggregate-write-paths-2
     write-paths-requires
     returns-2
     same-length

@@ -13,7 +13,7 @@ use Rattle.solver.proofs.Walks.{Walk, walk-starts, walk-asks, in-rows, 
 use Rattle.entering.proofs.FirstChild.{first-room, first-child}
 use Rattle.solver.proofs.ReplyWalk.{replies-from}
 use Rattle.solver.proofs.OutcomeWalk.{outcomes-from}
-use Rattle.solver.proofs.LoopTurns.{decision-room, decision-ends, no-edge, reply-refused, reply-stops, reply-goes, chance-ends, no-outcome, outcome-refused, outcome-stops, outcome-goes}
+use Rattle.solver.proofs.LoopTurns.{decision-room, decision-ends, sound-edge, no-edge, reply-refused, reply-stops, reply-goes, chance-ends, sound-outcome, no-outcome, outcome-refused, outcome-stops, outcome-goes}
 use borrow.Fn.Kinds.{In}
 use borrow.Fn.PlainCycle.{Measures, is, falls, and}
 use Rattle.solver.proofs.solve_chance.Reads as solve-chance
@@ -27,8 +27,8 @@ use Rattle.solver.proofs.solve_node.Kinds as solve-node-kinds
 use Rattle.solver.proofs.+solve_chance+solve_decision+solve_node.Lts-solve_node as solve-node-lts
 use Rattle.child_rows.proofs.first_child.Reads as first-child-reads
 use Rattle.child_rows.proofs.next_child.Reads as next-child-reads
-use Rattle.edges.proofs.action_edge.Reads as action-edge-reads
-use Rattle.edges.proofs.chance_outcome.Reads as chance-outcome-reads
+use Rattle.edges.proofs.sound_action_edge.Reads as sound-action-edge-reads
+use Rattle.edges.proofs.sound_chance_outcome.Reads as sound-chance-outcome-reads
 use Rattle.layout.proofs.row_count.Reads as row-count-reads
 use Rattle.memo.proofs.deeper.Reads as deeper-reads
 use Rattle.entering.proofs.enter.Reads as enter-reads
@@ -41,86 +41,86 @@ use Rattle.turns.proofs.store_sums.Reads as store-sums-reads
 use Rattle.solver.proofs.+solve_chance+solve_decision+solve_node.{statement}
 use Rattle.solver.proofs.+solve_chance+solve_decision+solve_node.Tie.{close}
 
-abbrev μ-solve-chance : Measures 4 solve-chance-kinds.ps ℕ
-μ-solve-chance κs a = a .1 .1 .1 .1 .1 .1 .1 .0 + a .1 .1 .1 .1 .1 .1 .1 .0 + 1
+abbrev μ-solve-chance : Measures 5 solve-chance-kinds.ps ℕ
+μ-solve-chance κs a = a .1 .1 .1 .1 .1 .1 .1 .1 .0 + a .1 .1 .1 .1 .1 .1 .1 .1 .0 + 1
 
-abbrev μ-solve-decision : Measures 4 solve-decision-kinds.ps ℕ
-μ-solve-decision κs a = a .1 .1 .1 .1 .1 .1 .1 .1 .0 + a .1 .1 .1 .1 .1 .1 .1 .1 .0 + 1
+abbrev μ-solve-decision : Measures 5 solve-decision-kinds.ps ℕ
+μ-solve-decision κs a = a .1 .1 .1 .1 .1 .1 .1 .1 .1 .0 + a .1 .1 .1 .1 .1 .1 .1 .1 .1 .0 + 1
 
-abbrev μ-solve-node : Measures 4 solve-node-kinds.ps ℕ
-μ-solve-node κs a = a .1 .1 .1 .1 .1 .1 .0 + a .1 .1 .1 .1 .1 .1 .0
+abbrev μ-solve-node : Measures 5 solve-node-kinds.ps ℕ
+μ-solve-node κs a = a .1 .1 .1 .1 .1 .1 .1 .0 + a .1 .1 .1 .1 .1 .1 .1 .0
 
-abbrev solve-chance-at : ℕ → In 4 solve-chance-kinds.ps
+abbrev solve-chance-at : ℕ → In 5 solve-chance-kinds.ps
 solve-chance-at t =
-    and 4 solve-chance-kinds.ps (is 4 solve-chance-kinds.ps μ-solve-chance t) solve-chance.Pre
+    and 5 solve-chance-kinds.ps (is 5 solve-chance-kinds.ps μ-solve-chance t) solve-chance.Pre
 
-abbrev solve-chance-below : ℕ → In 4 solve-chance-kinds.ps
+abbrev solve-chance-below : ℕ → In 5 solve-chance-kinds.ps
 solve-chance-below t =
     and
-    4
+    5
     solve-chance-kinds.ps
-    (falls 4 solve-chance-kinds.ps _<_ μ-solve-chance t)
+    (falls 5 solve-chance-kinds.ps _<_ μ-solve-chance t)
     solve-chance.Pre
 
-abbrev solve-decision-at : ℕ → In 4 solve-decision-kinds.ps
+abbrev solve-decision-at : ℕ → In 5 solve-decision-kinds.ps
 solve-decision-at t =
     and
-    4
+    5
     solve-decision-kinds.ps
-    (is 4 solve-decision-kinds.ps μ-solve-decision t)
+    (is 5 solve-decision-kinds.ps μ-solve-decision t)
     solve-decision.Pre
 
-abbrev solve-decision-below : ℕ → In 4 solve-decision-kinds.ps
+abbrev solve-decision-below : ℕ → In 5 solve-decision-kinds.ps
 solve-decision-below t =
     and
-    4
+    5
     solve-decision-kinds.ps
-    (falls 4 solve-decision-kinds.ps _<_ μ-solve-decision t)
+    (falls 5 solve-decision-kinds.ps _<_ μ-solve-decision t)
     solve-decision.Pre
 
-abbrev solve-node-at : ℕ → In 4 solve-node-kinds.ps
+abbrev solve-node-at : ℕ → In 5 solve-node-kinds.ps
 solve-node-at t =
-    and 4 solve-node-kinds.ps (is 4 solve-node-kinds.ps μ-solve-node t) solve-node.Pre
+    and 5 solve-node-kinds.ps (is 5 solve-node-kinds.ps μ-solve-node t) solve-node.Pre
 
-abbrev solve-node-below : ℕ → In 4 solve-node-kinds.ps
+abbrev solve-node-below : ℕ → In 5 solve-node-kinds.ps
 solve-node-below t =
-    and 4 solve-node-kinds.ps (falls 4 solve-node-kinds.ps _<_ μ-solve-node t) solve-node.Pre
+    and 5 solve-node-kinds.ps (falls 5 solve-node-kinds.ps _<_ μ-solve-node t) solve-node.Pre
 
 abbrev chance-calls : ℕ → solve-chance-lts.Claims
-chance-calls t = (row-count-reads.Asked, row-count-reads.Learnt, no-sums-reads.Asked, no-sums-reads.Learnt, first-child-reads.Asked, first-child-reads.Learnt, chance-outcome-reads.Asked, chance-outcome-reads.Learnt, next-child-reads.Asked, next-child-reads.Learnt, solve-node-below t, solve-node.Post, outcome-fault-reads.Asked, outcome-fault-reads.Learnt, outcome-to-reads.Asked, outcome-to-reads.Learnt, deeper-reads.Asked, deeper-reads.Learnt, store-sums-reads.Asked, store-sums-reads.Learnt)
+chance-calls t = (row-count-reads.Asked, row-count-reads.Learnt, no-sums-reads.Asked, no-sums-reads.Learnt, first-child-reads.Asked, first-child-reads.Learnt, sound-chance-outcome-reads.Asked, sound-chance-outcome-reads.Learnt, next-child-reads.Asked, next-child-reads.Learnt, solve-node-below t, solve-node.Post, outcome-fault-reads.Asked, outcome-fault-reads.Learnt, outcome-to-reads.Asked, outcome-to-reads.Learnt, deeper-reads.Asked, deeper-reads.Learnt, store-sums-reads.Asked, store-sums-reads.Learnt)
 
 abbrev decision-calls : ℕ → solve-decision-lts.Claims
-decision-calls t = (row-count-reads.Asked, row-count-reads.Learnt, first-child-reads.Asked, first-child-reads.Learnt, action-edge-reads.Asked, action-edge-reads.Learnt, next-child-reads.Asked, next-child-reads.Learnt, solve-node-below t, solve-node.Post, reply-to-reads.Asked, reply-to-reads.Learnt, deeper-reads.Asked, deeper-reads.Learnt, store-best-reads.Asked, store-best-reads.Learnt)
+decision-calls t = (row-count-reads.Asked, row-count-reads.Learnt, first-child-reads.Asked, first-child-reads.Learnt, sound-action-edge-reads.Asked, sound-action-edge-reads.Learnt, next-child-reads.Asked, next-child-reads.Learnt, solve-node-below t, solve-node.Post, reply-to-reads.Asked, reply-to-reads.Learnt, deeper-reads.Asked, deeper-reads.Learnt, store-best-reads.Asked, store-best-reads.Learnt)
 
 abbrev node-calls : ℕ → solve-node-lts.Claims
 node-calls t = (enter-reads.Asked, enter-reads.Learnt, solve-decision-below t, solve-decision.Post, solve-chance-below t, solve-chance.Post)
 
 abbrev solve-chance-Inv-loop : solve-chance-lts.InvT-loop
-solve-chance-Inv-loop sheet links heads₀ payoffs₀ method entity row left n sums₀ deepest₀ i₀ heads payoffs sums deepest i =
+solve-chance-Inv-loop sheet hints links heads₀ payoffs₀ method entity row left n sums₀ deepest₀ i₀ heads payoffs sums deepest i =
     Walk method sheet links (rows heads₀ payoffs₀) (rows heads payoffs) row entity (left + 1) n i deepest × Weighing method sheet entity i deepest sums
 
 abbrev solve-chance-μ-loop : solve-chance-lts.MeasureT-loop
-solve-chance-μ-loop sheet links heads₀ payoffs₀ method entity row left n sums₀ deepest₀ i₀ heads payoffs sums deepest i = n - i
+solve-chance-μ-loop sheet hints links heads₀ payoffs₀ method entity row left n sums₀ deepest₀ i₀ heads payoffs sums deepest i = n - i
 
 abbrev solve-decision-Inv-loop : solve-decision-lts.InvT-loop
-solve-decision-Inv-loop sheet links heads₀ payoffs₀ method entity row player left n best₀ deepest₀ i₀ heads payoffs best deepest i =
+solve-decision-Inv-loop sheet hints links heads₀ payoffs₀ method entity row player left n best₀ deepest₀ i₀ heads payoffs best deepest i =
     Walk method sheet links (rows heads₀ payoffs₀) (rows heads payoffs) row entity (left + 1) n i deepest × Deciding method sheet (rows heads payoffs) entity player i deepest best
 
 abbrev solve-decision-μ-loop : solve-decision-lts.MeasureT-loop
-solve-decision-μ-loop sheet links heads₀ payoffs₀ method entity row player left n best₀ deepest₀ i₀ heads payoffs best deepest i = n - i
+solve-decision-μ-loop sheet hints links heads₀ payoffs₀ method entity row player left n best₀ deepest₀ i₀ heads payoffs best deepest i = n - i
 
 solve-chance-row-count-requires : (t : ℕ) → solve-chance-lts.Need-row-count-requires (chance-calls t) (solve-chance-at t) solve-chance.Post solve-chance-Inv-loop solve-chance-μ-loop
-solve-chance-row-count-requires t c κs = (lit< tt, opens-layout _ (c .before .before .pre .1 .0 .opens))
+solve-chance-row-count-requires t c κs = (lit< tt, opens-layout _ (c .before .before .before .pre .1 .0 .opens))
 
 solve-chance-no-sums-requires : (t : ℕ) → solve-chance-lts.Need-no-sums-requires (chance-calls t) (solve-chance-at t) solve-chance.Post solve-chance-Inv-loop solve-chance-μ-loop
 solve-chance-no-sums-requires t c κs = search needs
 
 solve-chance-first-child-requires : (t : ℕ) → solve-chance-lts.Need-first-child-requires (chance-calls t) (solve-chance-at t) solve-chance.Post solve-chance-Inv-loop solve-chance-μ-loop
-solve-chance-first-child-requires t c κs = let p = c .before .before .before .before .pre .1 in first-room (p .0 .linked) (p .1)
+solve-chance-first-child-requires t c κs = let p = c .before .before .before .before .before .pre .1 in first-room (p .0 .linked) (p .1)
 
 solve-chance-loop-holds : (t : ℕ) → solve-chance-lts.Need-loop-holds (chance-calls t) (solve-chance-at t) solve-chance.Post solve-chance-Inv-loop solve-chance-μ-loop
 solve-chance-loop-holds t c =
-    let start = c .before .before .before .before .before in
+    let start = c .before .before .before .before .before .before in
     let a = start .args in
     let p = start .pre .1 in
     let to = c .first-child .ensures in (
@@ -128,8 +128,11 @@ solve-chance-loop-holds t c =
       outcomes-from (p .2 (c .before .no-sums .result) (c .before .no-sums .ensures)) (first-child (p .0 .linked) (p .1) to),
     )
 
-solve-chance-chance-outcome-requires : (t : ℕ) → solve-chance-lts.Need-chance-outcome-requires (chance-calls t) (solve-chance-at t) solve-chance.Post solve-chance-Inv-loop solve-chance-μ-loop
-solve-chance-chance-outcome-requires t c κs = let w = c .before .loop .inv .0 in (w .opens, in-rows w (c .loop-test .taken))
+solve-chance-sound-chance-outcome-requires : (t : ℕ) → solve-chance-lts.Need-sound-chance-outcome-requires (chance-calls t) (solve-chance-at t) solve-chance.Post solve-chance-Inv-loop solve-chance-μ-loop
+solve-chance-sound-chance-outcome-requires t c κs =
+    let v = c .before .loop .inv in
+    let h = c .loop-test .taken in
+    (v .0 .opens, in-rows (v .0) h, sound-outcome (v .0) (v .1) h)
 
 solve-chance-next-child-requires : (t : ℕ) → solve-chance-lts.Need-next-child-requires (chance-calls t) (solve-chance-at t) solve-chance.Post solve-chance-Inv-loop solve-chance-μ-loop
 solve-chance-next-child-requires t c κs = next-room (c .before .before .loop .inv .0) (c .before .loop-test .taken)
@@ -149,12 +152,12 @@ solve-chance-loop-again t c =
     let v = c .before .before .before .before .loop .inv in
     let h = c .before .before .before .loop-test .taken in
     let to = c .before .next-child .ensures in
-    let f = c .before .before .chance-outcome in
+    let f = c .before .before .sound-chance-outcome in
     (walk-skips (v .0) h to, no-outcome (v .0) (v .1) h to (f .result) (c .match .keys2) (f .ensures))
 
 solve-chance-solve-node-requires : (t : ℕ) → solve-chance-lts.Need-solve-node-requires (chance-calls t) (solve-chance-at t) solve-chance.Post solve-chance-Inv-loop solve-chance-μ-loop
 solve-chance-solve-node-requires t c κs =
-    let measure = c .before .before .before .before .before .before .before .before .before .before .before .before .before .before .pre .0 in (omega arith, walk-asks (c .before .before .before .before .before .before .before .before .loop .inv .0) (omega arith))
+    let measure = c .before .before .before .before .before .before .before .before .before .before .before .before .before .before .before .pre .0 in (omega arith, walk-asks (c .before .before .before .before .before .before .before .before .loop .inv .0) (omega arith))
 
 solve-chance-enum-known-v : (t : ℕ) → solve-chance-lts.Need-enum-known-v (chance-calls t) (solve-chance-at t) solve-chance.Post solve-chance-Inv-loop solve-chance-μ-loop
 solve-chance-enum-known-v t c = search needs
@@ -164,11 +167,11 @@ solve-chance-enum-told t c = search needs
 
 solve-chance-same-length : (t : ℕ) → solve-chance-lts.Need-same-length (chance-calls t) (solve-chance-at t) solve-chance.Post solve-chance-Inv-loop solve-chance-μ-loop
 solve-chance-same-length t c =
-    c .before .before .before .before .solve-node .kept .1 .1 .0 ∙ c .before .before .before .before .before .before .before .before .before .before .before .before .before .loop .inv .0 .as-long .heads
+    c .before .before .before .before .solve-node .kept .1 .1 .1 .0 ∙ c .before .before .before .before .before .before .before .before .before .before .before .before .before .loop .inv .0 .as-long .heads
 
 solve-chance-same-length-2 : (t : ℕ) → solve-chance-lts.Need-same-length-2 (chance-calls t) (solve-chance-at t) solve-chance.Post solve-chance-Inv-loop solve-chance-μ-loop
 solve-chance-same-length-2 t c =
-    c .before .before .before .before .solve-node .kept .1 .1 .1 .0 ∙ c .before .before .before .before .before .before .before .before .before .before .before .before .before .loop .inv .0 .as-long .payoffs
+    c .before .before .before .before .solve-node .kept .1 .1 .1 .1 .0 ∙ c .before .before .before .before .before .before .before .before .before .before .before .before .before .loop .inv .0 .as-long .payoffs
 
 solve-chance-returns : (t : ℕ) → solve-chance-lts.Need-returns (chance-calls t) (solve-chance-at t) solve-chance.Post solve-chance-Inv-loop solve-chance-μ-loop
 solve-chance-returns t c =
@@ -176,16 +179,16 @@ solve-chance-returns t c =
     let v = l .inv in
     let n = c .before .before .before .before .solve-node in
     let m = rows (l .heads) (l .payoffs) in
-    let m′ = rows (n .last .1 .1 .0) (n .last .1 .1 .1 .0) in
+    let m′ = rows (n .last .1 .1 .1 .0) (n .last .1 .1 .1 .1 .0) in
     let h = c .before .before .before .before .before .before .before .before .before .before .before .before .loop-test .taken in
     let to = c .before .before .before .before .before .before .before .before .before .before .next-child .ensures in
-    outcome-refused (v .0) (v .1) h to (c .before .before .before .before .before .before .before .before .step .given .1) (c .before .before .before .before .before .before .before .before .before .before .before .chance-outcome .ensures) m′ (add-one _) (n .ensures) (c .enum-told .given .1)
+    outcome-refused (v .0) (v .1) h to (c .before .before .before .before .before .before .before .before .step .given .1) (c .before .before .before .before .before .before .before .before .before .before .before .sound-chance-outcome .ensures) m′ (add-one _) (n .ensures) (c .enum-told .given .1)
 
 solve-chance-outcome-fault-requires : (t : ℕ) → solve-chance-lts.Need-outcome-fault-requires (chance-calls t) (solve-chance-at t) solve-chance.Post solve-chance-Inv-loop solve-chance-μ-loop
 solve-chance-outcome-fault-requires t c κs =
     let l = c .before .before .before .before .before .before .before .before .before .before .before .before .before .before .before .loop in
     let n = c .before .before .before .before .before .before .solve-node in
-    let r = answer-row (rows (l .heads) (l .payoffs)) (rows (n .last .1 .1 .0) (n .last .1 .1 .1 .0)) (c .before .before .v .given .1) (n .ensures) in
+    let r = answer-row (rows (l .heads) (l .payoffs)) (rows (n .last .1 .1 .1 .0) (n .last .1 .1 .1 .1 .0)) (c .before .before .v .given .1) (n .ensures) in
     r .within .heads
 
 solve-chance-enum-known-fault : (t : ℕ) → solve-chance-lts.Need-enum-known-fault (chance-calls t) (solve-chance-at t) solve-chance.Post solve-chance-Inv-loop solve-chance-μ-loop
@@ -193,11 +196,11 @@ solve-chance-enum-known-fault t c = search needs
 
 solve-chance-same-length-3 : (t : ℕ) → solve-chance-lts.Need-same-length-3 (chance-calls t) (solve-chance-at t) solve-chance.Post solve-chance-Inv-loop solve-chance-μ-loop
 solve-chance-same-length-3 t c =
-    c .before .before .before .before .before .before .before .before .before .before .solve-node .kept .1 .1 .0 ∙ c .before .before .before .before .before .before .before .before .before .before .before .before .before .before .before .before .before .before .before .loop .inv .0 .as-long .heads
+    c .before .before .before .before .before .before .before .before .before .before .solve-node .kept .1 .1 .1 .0 ∙ c .before .before .before .before .before .before .before .before .before .before .before .before .before .before .before .before .before .before .before .loop .inv .0 .as-long .heads
 
 solve-chance-same-length-4 : (t : ℕ) → solve-chance-lts.Need-same-length-4 (chance-calls t) (solve-chance-at t) solve-chance.Post solve-chance-Inv-loop solve-chance-μ-loop
 solve-chance-same-length-4 t c =
-    c .before .before .before .before .before .before .before .before .before .before .solve-node .kept .1 .1 .1 .0 ∙ c .before .before .before .before .before .before .before .before .before .before .before .before .before .before .before .before .before .before .before .loop .inv .0 .as-long .payoffs
+    c .before .before .before .before .before .before .before .before .before .before .solve-node .kept .1 .1 .1 .1 .0 ∙ c .before .before .before .before .before .before .before .before .before .before .before .before .before .before .before .before .before .before .before .loop .inv .0 .as-long .payoffs
 
 solve-chance-returns-2 : (t : ℕ) → solve-chance-lts.Need-returns-2 (chance-calls t) (solve-chance-at t) solve-chance.Post solve-chance-Inv-loop solve-chance-μ-loop
 solve-chance-returns-2 t c =
@@ -205,10 +208,10 @@ solve-chance-returns-2 t c =
     let v = l .inv in
     let n = c .before .before .before .before .before .before .before .before .before .before .solve-node in
     let m = rows (l .heads) (l .payoffs) in
-    let m′ = rows (n .last .1 .1 .0) (n .last .1 .1 .1 .0) in
+    let m′ = rows (n .last .1 .1 .1 .0) (n .last .1 .1 .1 .1 .0) in
     let h = c .before .before .before .before .before .before .before .before .before .before .before .before .before .before .before .before .before .before .loop-test .taken in
     let to = c .before .before .before .before .before .before .before .before .before .before .before .before .before .before .before .before .next-child .ensures in
-    outcome-stops (v .0) (v .1) h to (c .before .before .before .before .before .before .before .before .before .before .before .before .before .before .step .given .1) (c .before .before .before .before .before .before .before .before .before .before .before .before .before .before .before .before .before .chance-outcome .ensures) m′ (add-one _) (n .ensures) (c .before .before .before .before .before .before .v .given .1) _ (c .before .before .before .outcome-fault .ensures) (c .before .fault .given .1)
+    outcome-stops (v .0) (v .1) h to (c .before .before .before .before .before .before .before .before .before .before .before .before .before .before .step .given .1) (c .before .before .before .before .before .before .before .before .before .before .before .before .before .before .before .before .before .sound-chance-outcome .ensures) m′ (add-one _) (n .ensures) (c .before .before .before .before .before .before .v .given .1) _ (c .before .before .before .outcome-fault .ensures) (c .before .fault .given .1)
 
 solve-chance-enum-told-2 : (t : ℕ) → solve-chance-lts.Need-enum-told-2 (chance-calls t) (solve-chance-at t) solve-chance.Post solve-chance-Inv-loop solve-chance-μ-loop
 solve-chance-enum-told-2 t c = search needs
@@ -217,14 +220,14 @@ solve-chance-outcome-to-requires : (t : ℕ) → solve-chance-lts.Need-outcome-t
 solve-chance-outcome-to-requires t c κs =
     let l = c .before .before .before .before .before .before .before .before .before .before .before .before .before .before .before .before .before .before .before .before .loop in
     let n = c .before .before .before .before .before .before .before .before .before .before .before .solve-node in
-    let r = answer-row (rows (l .heads) (l .payoffs)) (rows (n .last .1 .1 .0) (n .last .1 .1 .1 .0)) (c .before .before .before .before .before .before .before .v .given .1) (n .ensures) in
+    let r = answer-row (rows (l .heads) (l .payoffs)) (rows (n .last .1 .1 .1 .0) (n .last .1 .1 .1 .1 .0)) (c .before .before .before .before .before .before .before .v .given .1) (n .ensures) in
     (r .within .heads, r .within .payoffs, r .room, l .inv .1 .held .sized)
 
 solve-chance-deeper-requires : (t : ℕ) → solve-chance-lts.Need-deeper-requires (chance-calls t) (solve-chance-at t) solve-chance.Post solve-chance-Inv-loop solve-chance-μ-loop
 solve-chance-deeper-requires t c κs =
     let l = c .before .before .before .before .before .before .before .before .before .before .before .before .before .before .before .before .before .before .before .before .before .before .loop in
     let n = c .before .before .before .before .before .before .before .before .before .before .before .before .before .solve-node in
-    let r = answer-row (rows (l .heads) (l .payoffs)) (rows (n .last .1 .1 .0) (n .last .1 .1 .1 .0)) (c .before .before .before .before .before .before .before .before .before .v .given .1) (n .ensures) in
+    let r = answer-row (rows (l .heads) (l .payoffs)) (rows (n .last .1 .1 .1 .0) (n .last .1 .1 .1 .1 .0)) (c .before .before .before .before .before .before .before .before .before .v .given .1) (n .ensures) in
     r .within .heads
 
 solve-chance-loop-less-2 : (t : ℕ) → solve-chance-lts.Need-loop-less-2 (chance-calls t) (solve-chance-at t) solve-chance.Post solve-chance-Inv-loop solve-chance-μ-loop
@@ -240,13 +243,13 @@ solve-chance-loop-again-2 t c =
     let v = l .inv in
     let n = c .before .before .before .before .before .before .before .before .before .before .before .before .before .before .solve-node in
     let m = rows (l .heads) (l .payoffs) in
-    let m′ = rows (n .last .1 .1 .0) (n .last .1 .1 .1 .0) in
+    let m′ = rows (n .last .1 .1 .1 .0) (n .last .1 .1 .1 .1 .0) in
     let h = c .before .before .before .before .before .before .before .before .before .before .before .before .before .before .before .before .before .before .before .before .before .before .loop-test .taken in
     let to = c .before .before .before .before .before .before .before .before .before .before .before .before .before .before .before .before .before .before .before .before .next-child .ensures in
     let there = c .before .before .before .before .before .before .before .before .before .before .v .given .1 in
     let deep = c .deeper .ensures in (
-      walk-goes (v .0) h to m′ (omega arith) (visited-as m m′ there (n .ensures)) (record { heads = n .kept .1 .1 .0; payoffs = n .kept .1 .1 .1 .0 }) deep,
-      outcome-goes (v .0) (v .1) h to (c .before .before .before .before .before .before .before .before .before .before .before .before .before .before .before .before .before .before .step .given .1) (c .before .before .before .before .before .before .before .before .before .before .before .before .before .before .before .before .before .before .before .before .before .chance-outcome .ensures) m′ (add-one _) (n .ensures) there _ (c .before .before .before .before .before .before .before .outcome-fault .ensures) (c .before .before .outcome-to .ensures) (c .before .before .before .before .before .enum-told2 .given .1) deep,
+      walk-goes (v .0) h to m′ (omega arith) (visited-as m m′ there (n .ensures)) (record { heads = n .kept .1 .1 .1 .0; payoffs = n .kept .1 .1 .1 .1 .0 }) deep,
+      outcome-goes (v .0) (v .1) h to (c .before .before .before .before .before .before .before .before .before .before .before .before .before .before .before .before .before .before .step .given .1) (c .before .before .before .before .before .before .before .before .before .before .before .before .before .before .before .before .before .before .before .before .before .sound-chance-outcome .ensures) m′ (add-one _) (n .ensures) there _ (c .before .before .before .before .before .before .before .outcome-fault .ensures) (c .before .before .outcome-to .ensures) (c .before .before .before .before .before .enum-told2 .given .1) deep,
     )
 
 solve-chance-store-sums-requires : (t : ℕ) → solve-chance-lts.Need-store-sums-requires (chance-calls t) (solve-chance-at t) solve-chance.Post solve-chance-Inv-loop solve-chance-μ-loop
@@ -267,14 +270,14 @@ solve-chance-returns-3 t c =
     chance-ends (v .0) (v .1) (c .before .before .before .before .before .loop-test .left) (rows (k .last .0) (k .last .1 .0)) (k .ensures)
 
 solve-decision-row-count-requires : (t : ℕ) → solve-decision-lts.Need-row-count-requires (decision-calls t) (solve-decision-at t) solve-decision.Post solve-decision-Inv-loop solve-decision-μ-loop
-solve-decision-row-count-requires t c κs = (lit< tt, opens-layout _ (c .before .before .pre .1 .0 .opens))
+solve-decision-row-count-requires t c κs = (lit< tt, opens-layout _ (c .before .before .before .pre .1 .0 .opens))
 
 solve-decision-first-child-requires : (t : ℕ) → solve-decision-lts.Need-first-child-requires (decision-calls t) (solve-decision-at t) solve-decision.Post solve-decision-Inv-loop solve-decision-μ-loop
-solve-decision-first-child-requires t c κs = let p = c .before .before .before .pre .1 in first-room (p .0 .linked) (p .1)
+solve-decision-first-child-requires t c κs = let p = c .before .before .before .before .pre .1 in first-room (p .0 .linked) (p .1)
 
 solve-decision-loop-holds : (t : ℕ) → solve-decision-lts.Need-loop-holds (decision-calls t) (solve-decision-at t) solve-decision.Post solve-decision-Inv-loop solve-decision-μ-loop
 solve-decision-loop-holds t c =
-    let start = c .before .before .before .before in
+    let start = c .before .before .before .before .before in
     let a = start .args in
     let p = start .pre .1 in
     let to = c .first-child .ensures in (
@@ -282,8 +285,11 @@ solve-decision-loop-holds t c =
       replies-from (p .2) (first-child (p .0 .linked) (p .1) to),
     )
 
-solve-decision-action-edge-requires : (t : ℕ) → solve-decision-lts.Need-action-edge-requires (decision-calls t) (solve-decision-at t) solve-decision.Post solve-decision-Inv-loop solve-decision-μ-loop
-solve-decision-action-edge-requires t c κs = let w = c .before .loop .inv .0 in (w .opens, in-rows w (c .loop-test .taken))
+solve-decision-sound-action-edge-requires : (t : ℕ) → solve-decision-lts.Need-sound-action-edge-requires (decision-calls t) (solve-decision-at t) solve-decision.Post solve-decision-Inv-loop solve-decision-μ-loop
+solve-decision-sound-action-edge-requires t c κs =
+    let v = c .before .loop .inv in
+    let h = c .loop-test .taken in
+    (v .0 .opens, in-rows (v .0) h, sound-edge (v .0) (v .1) h)
 
 solve-decision-next-child-requires : (t : ℕ) → solve-decision-lts.Need-next-child-requires (decision-calls t) (solve-decision-at t) solve-decision.Post solve-decision-Inv-loop solve-decision-μ-loop
 solve-decision-next-child-requires t c κs = next-room (c .before .before .loop .inv .0) (c .before .loop-test .taken)
@@ -303,12 +309,12 @@ solve-decision-loop-again t c =
     let v = c .before .before .before .before .loop .inv in
     let h = c .before .before .before .loop-test .taken in
     let to = c .before .next-child .ensures in
-    let f = c .before .before .action-edge in
+    let f = c .before .before .sound-action-edge in
     (walk-skips (v .0) h to, no-edge (v .0) (v .1) h to (f .result) (c .match .keys2) (f .ensures))
 
 solve-decision-solve-node-requires : (t : ℕ) → solve-decision-lts.Need-solve-node-requires (decision-calls t) (solve-decision-at t) solve-decision.Post solve-decision-Inv-loop solve-decision-μ-loop
 solve-decision-solve-node-requires t c κs =
-    let measure = c .before .before .before .before .before .before .before .before .before .before .before .before .before .pre .0 in (omega arith, walk-asks (c .before .before .before .before .before .before .before .before .loop .inv .0) (omega arith))
+    let measure = c .before .before .before .before .before .before .before .before .before .before .before .before .before .before .pre .0 in (omega arith, walk-asks (c .before .before .before .before .before .before .before .before .loop .inv .0) (omega arith))
 
 solve-decision-enum-known-v : (t : ℕ) → solve-decision-lts.Need-enum-known-v (decision-calls t) (solve-decision-at t) solve-decision.Post solve-decision-Inv-loop solve-decision-μ-loop
 solve-decision-enum-known-v t c = search needs
@@ -318,11 +324,11 @@ solve-decision-enum-told t c = search needs
 
 solve-decision-same-length : (t : ℕ) → solve-decision-lts.Need-same-length (decision-calls t) (solve-decision-at t) solve-decision.Post solve-decision-Inv-loop solve-decision-μ-loop
 solve-decision-same-length t c =
-    c .before .before .before .before .solve-node .kept .1 .1 .0 ∙ c .before .before .before .before .before .before .before .before .before .before .before .before .before .loop .inv .0 .as-long .heads
+    c .before .before .before .before .solve-node .kept .1 .1 .1 .0 ∙ c .before .before .before .before .before .before .before .before .before .before .before .before .before .loop .inv .0 .as-long .heads
 
 solve-decision-same-length-2 : (t : ℕ) → solve-decision-lts.Need-same-length-2 (decision-calls t) (solve-decision-at t) solve-decision.Post solve-decision-Inv-loop solve-decision-μ-loop
 solve-decision-same-length-2 t c =
-    c .before .before .before .before .solve-node .kept .1 .1 .1 .0 ∙ c .before .before .before .before .before .before .before .before .before .before .before .before .before .loop .inv .0 .as-long .payoffs
+    c .before .before .before .before .solve-node .kept .1 .1 .1 .1 .0 ∙ c .before .before .before .before .before .before .before .before .before .before .before .before .before .loop .inv .0 .as-long .payoffs
 
 solve-decision-returns : (t : ℕ) → solve-decision-lts.Need-returns (decision-calls t) (solve-decision-at t) solve-decision.Post solve-decision-Inv-loop solve-decision-μ-loop
 solve-decision-returns t c =
@@ -330,16 +336,16 @@ solve-decision-returns t c =
     let v = l .inv in
     let n = c .before .before .before .before .solve-node in
     let m = rows (l .heads) (l .payoffs) in
-    let m′ = rows (n .last .1 .1 .0) (n .last .1 .1 .1 .0) in
+    let m′ = rows (n .last .1 .1 .1 .0) (n .last .1 .1 .1 .1 .0) in
     let h = c .before .before .before .before .before .before .before .before .before .before .before .before .loop-test .taken in
     let to = c .before .before .before .before .before .before .before .before .before .before .next-child .ensures in
-    reply-refused (v .0) (v .1) h to (c .before .before .before .before .before .before .before .before .step .given .1) (c .before .before .before .before .before .before .before .before .before .before .before .action-edge .ensures) m′ (add-one _) (n .ensures) (c .enum-told .given .1)
+    reply-refused (v .0) (v .1) h to (c .before .before .before .before .before .before .before .before .step .given .1) (c .before .before .before .before .before .before .before .before .before .before .before .sound-action-edge .ensures) m′ (add-one _) (n .ensures) (c .enum-told .given .1)
 
 solve-decision-reply-to-requires : (t : ℕ) → solve-decision-lts.Need-reply-to-requires (decision-calls t) (solve-decision-at t) solve-decision.Post solve-decision-Inv-loop solve-decision-μ-loop
 solve-decision-reply-to-requires t c κs =
     let l = c .before .before .before .before .before .before .before .before .before .before .before .before .before .before .before .before .loop in
     let n = c .before .before .before .before .before .before .before .solve-node in
-    let r = answer-row (rows (l .heads) (l .payoffs)) (rows (n .last .1 .1 .0) (n .last .1 .1 .1 .0)) (c .before .before .before .v .given .1) (n .ensures) in
+    let r = answer-row (rows (l .heads) (l .payoffs)) (rows (n .last .1 .1 .1 .0) (n .last .1 .1 .1 .1 .0)) (c .before .before .before .v .given .1) (n .ensures) in
     (r .within .heads, r .within .payoffs, r .room)
 
 solve-decision-enum-known-turn : (t : ℕ) → solve-decision-lts.Need-enum-known-turn (decision-calls t) (solve-decision-at t) solve-decision.Post solve-decision-Inv-loop solve-decision-μ-loop
@@ -347,11 +353,11 @@ solve-decision-enum-known-turn t c = search needs
 
 solve-decision-same-length-3 : (t : ℕ) → solve-decision-lts.Need-same-length-3 (decision-calls t) (solve-decision-at t) solve-decision.Post solve-decision-Inv-loop solve-decision-μ-loop
 solve-decision-same-length-3 t c =
-    c .before .before .before .before .before .before .before .before .before .before .before .solve-node .kept .1 .1 .0 ∙ c .before .before .before .before .before .before .before .before .before .before .before .before .before .before .before .before .before .before .before .before .loop .inv .0 .as-long .heads
+    c .before .before .before .before .before .before .before .before .before .before .before .solve-node .kept .1 .1 .1 .0 ∙ c .before .before .before .before .before .before .before .before .before .before .before .before .before .before .before .before .before .before .before .before .loop .inv .0 .as-long .heads
 
 solve-decision-same-length-4 : (t : ℕ) → solve-decision-lts.Need-same-length-4 (decision-calls t) (solve-decision-at t) solve-decision.Post solve-decision-Inv-loop solve-decision-μ-loop
 solve-decision-same-length-4 t c =
-    c .before .before .before .before .before .before .before .before .before .before .before .solve-node .kept .1 .1 .1 .0 ∙ c .before .before .before .before .before .before .before .before .before .before .before .before .before .before .before .before .before .before .before .before .loop .inv .0 .as-long .payoffs
+    c .before .before .before .before .before .before .before .before .before .before .before .solve-node .kept .1 .1 .1 .1 .0 ∙ c .before .before .before .before .before .before .before .before .before .before .before .before .before .before .before .before .before .before .before .before .loop .inv .0 .as-long .payoffs
 
 solve-decision-returns-2 : (t : ℕ) → solve-decision-lts.Need-returns-2 (decision-calls t) (solve-decision-at t) solve-decision.Post solve-decision-Inv-loop solve-decision-μ-loop
 solve-decision-returns-2 t c =
@@ -359,10 +365,10 @@ solve-decision-returns-2 t c =
     let v = l .inv in
     let n = c .before .before .before .before .before .before .before .before .before .before .before .solve-node in
     let m = rows (l .heads) (l .payoffs) in
-    let m′ = rows (n .last .1 .1 .0) (n .last .1 .1 .1 .0) in
+    let m′ = rows (n .last .1 .1 .1 .0) (n .last .1 .1 .1 .1 .0) in
     let h = c .before .before .before .before .before .before .before .before .before .before .before .before .before .before .before .before .before .before .before .loop-test .taken in
     let to = c .before .before .before .before .before .before .before .before .before .before .before .before .before .before .before .before .before .next-child .ensures in
-    reply-stops (v .0) (v .1) h to (c .before .before .before .before .before .before .before .before .before .before .before .before .before .before .before .step .given .1) (c .before .before .before .before .before .before .before .before .before .before .before .before .before .before .before .before .before .before .action-edge .ensures) m′ (add-one _) (n .ensures) (c .before .before .before .before .before .before .before .v .given .1) (c .before .before .before .reply-to .ensures) (c .before .turn .given .1)
+    reply-stops (v .0) (v .1) h to (c .before .before .before .before .before .before .before .before .before .before .before .before .before .before .before .step .given .1) (c .before .before .before .before .before .before .before .before .before .before .before .before .before .before .before .before .before .before .sound-action-edge .ensures) m′ (add-one _) (n .ensures) (c .before .before .before .before .before .before .before .v .given .1) (c .before .before .before .reply-to .ensures) (c .before .turn .given .1)
 
 solve-decision-enum-known-turn-2 : (t : ℕ) → solve-decision-lts.Need-enum-known-turn-2 (decision-calls t) (solve-decision-at t) solve-decision.Post solve-decision-Inv-loop solve-decision-μ-loop
 solve-decision-enum-known-turn-2 t c = search needs
@@ -371,7 +377,7 @@ solve-decision-deeper-requires : (t : ℕ) → solve-decision-lts.Need-deeper-re
 solve-decision-deeper-requires t c κs =
     let l = c .before .before .before .before .before .before .before .before .before .before .before .before .before .before .before .before .before .before .before .before .before .loop in
     let n = c .before .before .before .before .before .before .before .before .before .before .before .before .solve-node in
-    let r = answer-row (rows (l .heads) (l .payoffs)) (rows (n .last .1 .1 .0) (n .last .1 .1 .1 .0)) (c .before .before .before .before .before .before .before .before .v .given .1) (n .ensures) in
+    let r = answer-row (rows (l .heads) (l .payoffs)) (rows (n .last .1 .1 .1 .0) (n .last .1 .1 .1 .1 .0)) (c .before .before .before .before .before .before .before .before .v .given .1) (n .ensures) in
     r .within .heads
 
 solve-decision-loop-less-2 : (t : ℕ) → solve-decision-lts.Need-loop-less-2 (decision-calls t) (solve-decision-at t) solve-decision.Post solve-decision-Inv-loop solve-decision-μ-loop
@@ -387,13 +393,13 @@ solve-decision-loop-again-2 t c =
     let v = l .inv in
     let n = c .before .before .before .before .before .before .before .before .before .before .before .before .before .solve-node in
     let m = rows (l .heads) (l .payoffs) in
-    let m′ = rows (n .last .1 .1 .0) (n .last .1 .1 .1 .0) in
+    let m′ = rows (n .last .1 .1 .1 .0) (n .last .1 .1 .1 .1 .0) in
     let h = c .before .before .before .before .before .before .before .before .before .before .before .before .before .before .before .before .before .before .before .before .before .loop-test .taken in
     let to = c .before .before .before .before .before .before .before .before .before .before .before .before .before .before .before .before .before .before .before .next-child .ensures in
     let there = c .before .before .before .before .before .before .before .before .before .v .given .1 in
     let deep = c .deeper .ensures in (
-      walk-goes (v .0) h to m′ (omega arith) (visited-as m m′ there (n .ensures)) (record { heads = n .kept .1 .1 .0; payoffs = n .kept .1 .1 .1 .0 }) deep,
-      reply-goes (v .0) (v .1) h to (c .before .before .before .before .before .before .before .before .before .before .before .before .before .before .before .before .before .step .given .1) (c .before .before .before .before .before .before .before .before .before .before .before .before .before .before .before .before .before .before .before .before .action-edge .ensures) m′ (add-one _) (n .ensures) there (c .before .before .before .before .before .reply-to .ensures) (c .before .before .before .turn2 .given .1) deep,
+      walk-goes (v .0) h to m′ (omega arith) (visited-as m m′ there (n .ensures)) (record { heads = n .kept .1 .1 .1 .0; payoffs = n .kept .1 .1 .1 .1 .0 }) deep,
+      reply-goes (v .0) (v .1) h to (c .before .before .before .before .before .before .before .before .before .before .before .before .before .before .before .before .before .step .given .1) (c .before .before .before .before .before .before .before .before .before .before .before .before .before .before .before .before .before .before .before .before .sound-action-edge .ensures) m′ (add-one _) (n .ensures) there (c .before .before .before .before .before .reply-to .ensures) (c .before .before .before .turn2 .given .1) deep,
     )
 
 solve-decision-store-best-requires : (t : ℕ) → solve-decision-lts.Need-store-best-requires (decision-calls t) (solve-decision-at t) solve-decision.Post solve-decision-Inv-loop solve-decision-μ-loop
@@ -414,7 +420,7 @@ solve-decision-returns-3 t c =
     decision-ends (v .0) (v .1) (c .before .before .before .before .before .loop-test .left) (rows (k .last .0) (k .last .1 .0)) (k .ensures)
 
 solve-node-enter-requires : (t : ℕ) → solve-node-lts.Need-enter-requires (node-calls t) (solve-node-at t) solve-node.Post
-solve-node-enter-requires t c κs = c .before .before .before .before .pre .1
+solve-node-enter-requires t c κs = c .before .before .before .before .before .pre .1
 
 solve-node-enum-known-entered : (t : ℕ) → solve-node-lts.Need-enum-known-entered (node-calls t) (solve-node-at t) solve-node.Post
 solve-node-enum-known-entered t c = search needs
@@ -424,17 +430,17 @@ solve-node-enum-known-entered-2 t c = search needs
 
 solve-node-sub-solve-decision : (t : ℕ) → solve-node-lts.Need-sub-solve-decision (node-calls t) (solve-node-at t) solve-node.Post
 solve-node-sub-solve-decision t c =
-    let a = c .before .before .before .before .before .before .before .before .before .before .before .before .args in
+    let a = c .before .before .before .before .before .before .before .before .before .before .before .before .before .args in
     let e = c .before .before .before .before .before .before .before .enter in
-    let u = entered-as (rows (a .heads .now) (a .payoffs .now)) (rows (e .last .1 .1 .0) (e .last .1 .1 .1 .0)) (c .before .before .before .entered2 .given .1) (e .ensures) in
+    let u = entered-as (rows (a .heads .now) (a .payoffs .now)) (rows (e .last .1 .1 .1 .0) (e .last .1 .1 .1 .1 .0)) (c .before .before .before .entered2 .given .1) (e .ensures) in
     let d = u .0 in omega arith
 
 solve-node-solve-decision-requires : (t : ℕ) → solve-node-lts.Need-solve-decision-requires (node-calls t) (solve-node-at t) solve-node.Post
 solve-node-solve-decision-requires t c κs =
-    let a = c .before .before .before .before .before .before .before .before .before .before .before .before .args in
+    let a = c .before .before .before .before .before .before .before .before .before .before .before .before .before .args in
     let e = c .before .before .before .before .before .before .before .enter in
-    let u = entered-as (rows (a .heads .now) (a .payoffs .now)) (rows (e .last .1 .1 .0) (e .last .1 .1 .1 .0)) (c .before .before .before .entered2 .given .1) (e .ensures) in
-    let p = c .before .before .before .before .before .before .before .before .before .before .before .before .pre in
+    let u = entered-as (rows (a .heads .now) (a .payoffs .now)) (rows (e .last .1 .1 .1 .0) (e .last .1 .1 .1 .1 .0)) (c .before .before .before .entered2 .given .1) (e .ensures) in
+    let p = c .before .before .before .before .before .before .before .before .before .before .before .before .before .pre in
     let d = u .0 in
     let measure = p .0 in
     let low = p .1 .low in
@@ -445,74 +451,74 @@ solve-node-enum-known-entered-3 t c = search needs
 
 solve-node-sub-solve-chance : (t : ℕ) → solve-node-lts.Need-sub-solve-chance (node-calls t) (solve-node-at t) solve-node.Post
 solve-node-sub-solve-chance t c =
-    let a = c .before .before .before .before .before .before .before .before .before .before .before .before .args in
+    let a = c .before .before .before .before .before .before .before .before .before .before .before .before .before .args in
     let e = c .before .before .before .before .before .before .before .enter in
-    let u = entered-as (rows (a .heads .now) (a .payoffs .now)) (rows (e .last .1 .1 .0) (e .last .1 .1 .1 .0)) (c .before .before .before .entered3 .given .1) (e .ensures) in
+    let u = entered-as (rows (a .heads .now) (a .payoffs .now)) (rows (e .last .1 .1 .1 .0) (e .last .1 .1 .1 .1 .0)) (c .before .before .before .entered3 .given .1) (e .ensures) in
     let d = u .0 in omega arith
 
 solve-node-solve-chance-requires : (t : ℕ) → solve-node-lts.Need-solve-chance-requires (node-calls t) (solve-node-at t) solve-node.Post
 solve-node-solve-chance-requires t c κs =
-    let a = c .before .before .before .before .before .before .before .before .before .before .before .before .args in
+    let a = c .before .before .before .before .before .before .before .before .before .before .before .before .before .args in
     let e = c .before .before .before .before .before .before .before .enter in
-    let u = entered-as (rows (a .heads .now) (a .payoffs .now)) (rows (e .last .1 .1 .0) (e .last .1 .1 .1 .0)) (c .before .before .before .entered3 .given .1) (e .ensures) in
-    let p = c .before .before .before .before .before .before .before .before .before .before .before .before .pre in
+    let u = entered-as (rows (a .heads .now) (a .payoffs .now)) (rows (e .last .1 .1 .1 .0) (e .last .1 .1 .1 .1 .0)) (c .before .before .before .entered3 .given .1) (e .ensures) in
+    let p = c .before .before .before .before .before .before .before .before .before .before .before .before .before .pre in
     let d = u .0 in
     let measure = p .0 in
     let low = p .1 .low in
     (omega arith, (record { opens = p .1 .opens; linked = p .1 .linked; low = omega arith; memo = e .ensures .memo }, u .1, u .2))
 
 solve-node-same-length : (t : ℕ) → solve-node-lts.Need-same-length (node-calls t) (solve-node-at t) solve-node.Post
-solve-node-same-length t c = c .before .before .before .before .before .enter .kept .1 .1 .0
+solve-node-same-length t c = c .before .before .before .before .before .enter .kept .1 .1 .1 .0
 
 solve-node-same-length-2 : (t : ℕ) → solve-node-lts.Need-same-length-2 (node-calls t) (solve-node-at t) solve-node.Post
-solve-node-same-length-2 t c = c .before .before .before .before .before .enter .kept .1 .1 .1 .0
+solve-node-same-length-2 t c = c .before .before .before .before .before .enter .kept .1 .1 .1 .1 .0
 
 solve-node-returns : (t : ℕ) → solve-node-lts.Need-returns (node-calls t) (solve-node-at t) solve-node.Post
 solve-node-returns t c =
-    let a = c .before .before .before .before .before .before .before .before .before .before .args in
+    let a = c .before .before .before .before .before .before .before .before .before .before .before .args in
     let e = c .before .before .before .before .before .enter in
-    let u = entered-as (rows (a .heads .now) (a .payoffs .now)) (rows (e .last .1 .1 .0) (e .last .1 .1 .1 .0)) (c .before .entered .given .1) (e .ensures) in
+    let u = entered-as (rows (a .heads .now) (a .payoffs .now)) (rows (e .last .1 .1 .1 .0) (e .last .1 .1 .1 .1 .0)) (c .before .entered .given .1) (e .ensures) in
     record { memo = e .ensures .memo; extends = e .ensures .extends; visited = u }
 
 solve-node-same-length-3 : (t : ℕ) → solve-node-lts.Need-same-length-3 (node-calls t) (solve-node-at t) solve-node.Post
 solve-node-same-length-3 t c =
-    c .before .before .solve-decision .kept .1 .1 .0 ∙ c .before .before .before .before .before .before .before .before .before .before .enter .kept .1 .1 .0
+    c .before .before .solve-decision .kept .1 .1 .1 .0 ∙ c .before .before .before .before .before .before .before .before .before .before .enter .kept .1 .1 .1 .0
 
 solve-node-same-length-4 : (t : ℕ) → solve-node-lts.Need-same-length-4 (node-calls t) (solve-node-at t) solve-node.Post
 solve-node-same-length-4 t c =
-    c .before .before .solve-decision .kept .1 .1 .1 .0 ∙ c .before .before .before .before .before .before .before .before .before .before .enter .kept .1 .1 .1 .0
+    c .before .before .solve-decision .kept .1 .1 .1 .1 .0 ∙ c .before .before .before .before .before .before .before .before .before .before .enter .kept .1 .1 .1 .1 .0
 
 solve-node-returns-2 : (t : ℕ) → solve-node-lts.Need-returns-2 (node-calls t) (solve-node-at t) solve-node.Post
 solve-node-returns-2 t c =
-    let a = c .before .before .before .before .before .before .before .before .before .before .before .before .before .before .before .args in
+    let a = c .before .before .before .before .before .before .before .before .before .before .before .before .before .before .before .before .args in
     let e = c .before .before .before .before .before .before .before .before .before .before .enter in
-    let u = entered-as (rows (a .heads .now) (a .payoffs .now)) (rows (e .last .1 .1 .0) (e .last .1 .1 .1 .0)) (c .before .before .before .before .before .before .entered2 .given .1) (e .ensures) in
+    let u = entered-as (rows (a .heads .now) (a .payoffs .now)) (rows (e .last .1 .1 .1 .0) (e .last .1 .1 .1 .1 .0)) (c .before .before .before .before .before .before .entered2 .given .1) (e .ensures) in
     let n = c .before .before .solve-decision in
     let d = u .0 in
     let whole : a .left - 1 + 1 ≡ a .left = omega arith in
-    visits-after (rows (a .heads .now) (a .payoffs .now)) (rows (e .last .1 .1 .0) (e .last .1 .1 .1 .0)) (rows (n .last .1 .1 .0) (n .last .1 .1 .1 .0)) (e .ensures .extends) (rw whole at (n .ensures))
+    visits-after (rows (a .heads .now) (a .payoffs .now)) (rows (e .last .1 .1 .1 .0) (e .last .1 .1 .1 .1 .0)) (rows (n .last .1 .1 .1 .0) (n .last .1 .1 .1 .1 .0)) (e .ensures .extends) (rw whole at (n .ensures))
 
 solve-node-same-length-5 : (t : ℕ) → solve-node-lts.Need-same-length-5 (node-calls t) (solve-node-at t) solve-node.Post
 solve-node-same-length-5 t c =
-    c .before .before .solve-chance .kept .1 .1 .0 ∙ c .before .before .before .before .before .before .before .before .before .before .enter .kept .1 .1 .0
+    c .before .before .solve-chance .kept .1 .1 .1 .0 ∙ c .before .before .before .before .before .before .before .before .before .before .enter .kept .1 .1 .1 .0
 
 solve-node-same-length-6 : (t : ℕ) → solve-node-lts.Need-same-length-6 (node-calls t) (solve-node-at t) solve-node.Post
 solve-node-same-length-6 t c =
-    c .before .before .solve-chance .kept .1 .1 .1 .0 ∙ c .before .before .before .before .before .before .before .before .before .before .enter .kept .1 .1 .1 .0
+    c .before .before .solve-chance .kept .1 .1 .1 .1 .0 ∙ c .before .before .before .before .before .before .before .before .before .before .enter .kept .1 .1 .1 .1 .0
 
 solve-node-returns-3 : (t : ℕ) → solve-node-lts.Need-returns-3 (node-calls t) (solve-node-at t) solve-node.Post
 solve-node-returns-3 t c =
-    let a = c .before .before .before .before .before .before .before .before .before .before .before .before .before .before .before .args in
+    let a = c .before .before .before .before .before .before .before .before .before .before .before .before .before .before .before .before .args in
     let e = c .before .before .before .before .before .before .before .before .before .before .enter in
-    let u = entered-as (rows (a .heads .now) (a .payoffs .now)) (rows (e .last .1 .1 .0) (e .last .1 .1 .1 .0)) (c .before .before .before .before .before .before .entered3 .given .1) (e .ensures) in
+    let u = entered-as (rows (a .heads .now) (a .payoffs .now)) (rows (e .last .1 .1 .1 .0) (e .last .1 .1 .1 .1 .0)) (c .before .before .before .before .before .before .entered3 .given .1) (e .ensures) in
     let n = c .before .before .solve-chance in
     let d = u .0 in
     let whole : a .left - 1 + 1 ≡ a .left = omega arith in
-    visits-after (rows (a .heads .now) (a .payoffs .now)) (rows (e .last .1 .1 .0) (e .last .1 .1 .1 .0)) (rows (n .last .1 .1 .0) (n .last .1 .1 .1 .0)) (e .ensures .extends) (rw whole at (n .ensures))
+    visits-after (rows (a .heads .now) (a .payoffs .now)) (rows (e .last .1 .1 .1 .0) (e .last .1 .1 .1 .1 .0)) (rows (n .last .1 .1 .1 .0) (n .last .1 .1 .1 .1 .0)) (e .ensures .extends) (rw whole at (n .ensures))
 
 pub +solve-chance+solve-decision+solve-node-spec : {M : Type 1} → statement M
 +solve-chance+solve-decision+solve-node-spec =
     close μ-solve-chance μ-solve-decision μ-solve-node
-    (λ t. solve-chance-lts.spec (chance-calls t) (solve-chance-at t) solve-chance.Post solve-chance-Inv-loop solve-chance-μ-loop (solve-chance-row-count-requires t) (solve-chance-no-sums-requires t) (solve-chance-first-child-requires t) (solve-chance-loop-holds t) (solve-chance-chance-outcome-requires t) (solve-chance-next-child-requires t) (solve-chance-enum-known-step t) (solve-chance-loop-less t) (solve-chance-loop-again t) (solve-chance-solve-node-requires t) (solve-chance-enum-known-v t) (solve-chance-enum-told t) (solve-chance-same-length t) (solve-chance-same-length-2 t) (solve-chance-returns t) (solve-chance-outcome-fault-requires t) (solve-chance-enum-known-fault t) (solve-chance-same-length-3 t) (solve-chance-same-length-4 t) (solve-chance-returns-2 t) (solve-chance-enum-told-2 t) (solve-chance-outcome-to-requires t) (solve-chance-deeper-requires t) (solve-chance-loop-less-2 t) (solve-chance-loop-again-2 t) (solve-chance-store-sums-requires t) (solve-chance-same-length-5 t) (solve-chance-same-length-6 t) (solve-chance-returns-3 t))
-    (λ t. solve-decision-lts.spec (decision-calls t) (solve-decision-at t) solve-decision.Post solve-decision-Inv-loop solve-decision-μ-loop (solve-decision-row-count-requires t) (solve-decision-first-child-requires t) (solve-decision-loop-holds t) (solve-decision-action-edge-requires t) (solve-decision-next-child-requires t) (solve-decision-enum-known-step t) (solve-decision-loop-less t) (solve-decision-loop-again t) (solve-decision-solve-node-requires t) (solve-decision-enum-known-v t) (solve-decision-enum-told t) (solve-decision-same-length t) (solve-decision-same-length-2 t) (solve-decision-returns t) (solve-decision-reply-to-requires t) (solve-decision-enum-known-turn t) (solve-decision-same-length-3 t) (solve-decision-same-length-4 t) (solve-decision-returns-2 t) (solve-decision-enum-known-turn-2 t) (solve-decision-deeper-requires t) (solve-decision-loop-less-2 t) (solve-decision-loop-again-2 t) (solve-decision-store-best-requires t) (solve-decision-same-length-5 t) (solve-decision-same-length-6 t) (solve-decision-returns-3 t))
+    (λ t. solve-chance-lts.spec (chance-calls t) (solve-chance-at t) solve-chance.Post solve-chance-Inv-loop solve-chance-μ-loop (solve-chance-row-count-requires t) (solve-chance-no-sums-requires t) (solve-chance-first-child-requires t) (solve-chance-loop-holds t) (solve-chance-sound-chance-outcome-requires t) (solve-chance-next-child-requires t) (solve-chance-enum-known-step t) (solve-chance-loop-less t) (solve-chance-loop-again t) (solve-chance-solve-node-requires t) (solve-chance-enum-known-v t) (solve-chance-enum-told t) (solve-chance-same-length t) (solve-chance-same-length-2 t) (solve-chance-returns t) (solve-chance-outcome-fault-requires t) (solve-chance-enum-known-fault t) (solve-chance-same-length-3 t) (solve-chance-same-length-4 t) (solve-chance-returns-2 t) (solve-chance-enum-told-2 t) (solve-chance-outcome-to-requires t) (solve-chance-deeper-requires t) (solve-chance-loop-less-2 t) (solve-chance-loop-again-2 t) (solve-chance-store-sums-requires t) (solve-chance-same-length-5 t) (solve-chance-same-length-6 t) (solve-chance-returns-3 t))
+    (λ t. solve-decision-lts.spec (decision-calls t) (solve-decision-at t) solve-decision.Post solve-decision-Inv-loop solve-decision-μ-loop (solve-decision-row-count-requires t) (solve-decision-first-child-requires t) (solve-decision-loop-holds t) (solve-decision-sound-action-edge-requires t) (solve-decision-next-child-requires t) (solve-decision-enum-known-step t) (solve-decision-loop-less t) (solve-decision-loop-again t) (solve-decision-solve-node-requires t) (solve-decision-enum-known-v t) (solve-decision-enum-told t) (solve-decision-same-length t) (solve-decision-same-length-2 t) (solve-decision-returns t) (solve-decision-reply-to-requires t) (solve-decision-enum-known-turn t) (solve-decision-same-length-3 t) (solve-decision-same-length-4 t) (solve-decision-returns-2 t) (solve-decision-enum-known-turn-2 t) (solve-decision-deeper-requires t) (solve-decision-loop-less-2 t) (solve-decision-loop-again-2 t) (solve-decision-store-best-requires t) (solve-decision-same-length-5 t) (solve-decision-same-length-6 t) (solve-decision-returns-3 t))
     (λ t. solve-node-lts.spec (node-calls t) (solve-node-at t) solve-node.Post (solve-node-enter-requires t) (solve-node-enum-known-entered t) (solve-node-enum-known-entered-2 t) (solve-node-sub-solve-decision t) (solve-node-solve-decision-requires t) (solve-node-enum-known-entered-3 t) (solve-node-sub-solve-chance t) (solve-node-solve-chance-requires t) (solve-node-same-length t) (solve-node-same-length-2 t) (solve-node-returns t) (solve-node-same-length-3 t) (solve-node-same-length-4 t) (solve-node-returns-2 t) (solve-node-same-length-5 t) (solve-node-same-length-6 t) (solve-node-returns-3 t))

@@ -21,21 +21,21 @@ use Rattle.topology.proofs.validate_reachable_node.Kinds as kinds
 use Rattle.topology.proofs.+validate_reachable_node.Lts-validate_reachable_node as lts
 use Rattle.answer.proofs.refuse.Reads as refuse-reads
 use Rattle.graph_relations.proofs.children_of.Reads as children-of-reads
-use Rattle.opening.proofs.find_row.Reads as find-row-reads
+use Rattle.lookup.proofs.find_row.Reads as find-row-reads
 use Rattle.layout.proofs.row_count.Reads as row-count-reads
 use Rattle.sheet.proofs.node_row.Reads as node-row-reads
 use Rattle.topology.proofs.check_kind.Reads as check-kind-reads
 use Rattle.topology.proofs.+validate_reachable_node.{statement}
 use Rattle.topology.proofs.+validate_reachable_node.Tie.{close}
 
-abbrev μ-node : Measures 2 kinds.ps ℕ
-μ-node κs a = a .1 .1 .0
+abbrev μ-node : Measures 3 kinds.ps ℕ
+μ-node κs a = a .1 .1 .1 .0
 
-abbrev node-is : ℕ → In 2 kinds.ps
-node-is t = and 2 kinds.ps (is 2 kinds.ps μ-node t) reads.Pre
+abbrev node-is : ℕ → In 3 kinds.ps
+node-is t = and 3 kinds.ps (is 3 kinds.ps μ-node t) reads.Pre
 
-abbrev node-below : ℕ → In 2 kinds.ps
-node-below t = and 2 kinds.ps (falls 2 kinds.ps _<_ μ-node t) reads.Pre
+abbrev node-below : ℕ → In 3 kinds.ps
+node-below t = and 3 kinds.ps (falls 3 kinds.ps _<_ μ-node t) reads.Pre
 
 abbrev calls : ℕ → lts.Claims
 calls t = (
@@ -56,35 +56,35 @@ calls t = (
 )
 
 abbrev Inv-loop : lts.InvT-loop
-Inv-loop sheet entity left marks₀ row n i₀ marks i = (i ≤ n) × Turns sheet (left - 1) entity n marks₀ i marks
+Inv-loop sheet hints entity left marks₀ row n i₀ marks i = (i ≤ n) × Turns sheet (left - 1) entity n marks₀ i marks
 
 abbrev μ-loop : lts.MeasureT-loop
-μ-loop sheet entity left marks₀ row n i₀ marks i = n - i
+μ-loop sheet hints entity left marks₀ row n i₀ marks i = n - i
 
 -- some depth is left
-deep : (t : ℕ) (c : lts.Else1 (calls t) (node-is t) reads.Post Inv-loop μ-loop) → c .before .before .args .left ≡ suc (c .before .before .args .left - 1)
+deep : (t : ℕ) (c : lts.Else1 (calls t) (node-is t) reads.Post Inv-loop μ-loop) → c .before .before .before .args .left ≡ suc (c .before .before .before .args .left - 1)
 deep t c = omega (arith, c .if1 .left)
 
 -- the row that was found is the entity's, and has a mark
-found : (t : ℕ) (c : lts.After-row (calls t) (node-is t) reads.Post Inv-loop μ-loop) → NodeAt (now (c .before .before .before .before .before .args .sheet)) (c .before .before .before .before .before .args .entity) (c .row .given .0 .0)
+found : (t : ℕ) (c : lts.After-row (calls t) (node-is t) reads.Post Inv-loop μ-loop) → NodeAt (now (c .before .before .before .before .before .before .args .sheet)) (c .before .before .before .before .before .before .args .entity) (c .row .given .0 .0)
 found t c = node-at _ _ _ (c .before .before .find-row .ensures) _ (c .row .given .1)
 
 has-mark : (t : ℕ) (c : lts.After-row (calls t) (node-is t) reads.Post Inv-loop μ-loop) → c .row .given .0 .0 < 1024
-has-mark t c = omega (arith, found t c .within, most-nodes _ (c .before .before .before .before .before .pre .1))
+has-mark t c = omega (arith, found t c .within, most-nodes _ (c .before .before .before .before .before .before .pre .1))
 
 -- the kind that was checked is the row's
 kind-says : (t : ℕ) (c : lts.After-check-kind (calls t) (node-is t) reads.Post Inv-loop μ-loop) → faultOf (c .check-kind .result)
-    ≡ kindFault (gameOf (now (c .before .before .before .before .before .before .before .before .before .before .before .before .args .sheet))) (c .before .before .before .before .before .before .before .before .before .before .before .before .args .entity) (some (nodeRow (now (c .before .before .before .before .before .before .before .before .before .before .before .before .args .sheet)) (c .before .before .before .before .before .before .before .row .given .0 .0) .kind))
+    ≡ kindFault (gameOf (now (c .before .before .before .before .before .before .before .before .before .before .before .before .before .args .sheet))) (c .before .before .before .before .before .before .before .before .before .before .before .before .before .args .entity) (some (nodeRow (now (c .before .before .before .before .before .before .before .before .before .before .before .before .before .args .sheet)) (c .before .before .before .before .before .before .before .row .given .0 .0) .kind))
 kind-says t c =
     c .check-kind .ensures
-    ∙ ap (λ (n : Node). kindFault (gameOf (now (c .before .before .before .before .before .before .before .before .before .before .before .before .args .sheet))) (c .before .before .before .before .before .before .before .before .before .before .before .before .args .entity) (some (n .kind)))
+    ∙ ap (λ (n : Node). kindFault (gameOf (now (c .before .before .before .before .before .before .before .before .before .before .before .before .before .args .sheet))) (c .before .before .before .before .before .before .before .before .before .before .before .before .before .args .entity) (some (n .kind)))
     (c .before .node-row .ensures)
 
 -- what the code knows in its loop
-entered : (t : ℕ) (c : lts.At-loop (calls t) (node-is t) reads.Post Inv-loop μ-loop) → Entered (now (c .before .before .before .before .before .before .before .before .before .before .before .before .before .before .before .before .args .sheet)) (c .before .before .before .before .before .before .before .before .before .before .before .before .before .before .before .before .args .left) (c .before .before .before .before .before .before .before .before .before .before .before .before .before .before .before .before .args .left - 1) (c .before .before .before .before .before .before .before .before .before .before .before .before .before .before .before .before .args .entity) (now (c .before .before .before .before .before .before .before .before .before .before .before .before .before .before .before .before .args .marks)) (c .before .before .before .before .before .before .before .before .before .before .before .row .given .0 .0) (c .before .row-count .result)
+entered : (t : ℕ) (c : lts.At-loop (calls t) (node-is t) reads.Post Inv-loop μ-loop) → Entered (now (c .before .before .before .before .before .before .before .before .before .before .before .before .before .before .before .before .before .args .sheet)) (c .before .before .before .before .before .before .before .before .before .before .before .before .before .before .before .before .before .args .left) (c .before .before .before .before .before .before .before .before .before .before .before .before .before .before .before .before .before .args .left - 1) (c .before .before .before .before .before .before .before .before .before .before .before .before .before .before .before .before .before .args .entity) (now (c .before .before .before .before .before .before .before .before .before .before .before .before .before .before .before .before .before .args .marks)) (c .before .before .before .before .before .before .before .before .before .before .before .row .given .0 .0) (c .before .row-count .result)
 entered t c =
     record {
-      opens = c .before .before .before .before .before .before .before .before .before .before .before .before .before .before .before .before .pre .1;
+      opens = c .before .before .before .before .before .before .before .before .before .before .before .before .before .before .before .before .before .pre .1;
       deep = deep t (c .before .before .before .before .before .before .before .before .before .before .before .before .before .before);
       node = found t (c .before .before .before .before .before .before .before .before .before .before .before);
       new = c .before .before .before .before .before .before .before .before .if2 .left;
@@ -138,7 +138,7 @@ returns-4 t c =
     (c .if3 .taken)
 
 node-row-requires : (t : ℕ) → lts.Need-node-row-requires (calls t) (node-is t) reads.Post Inv-loop μ-loop
-node-row-requires t c κs = (c .before .before .before .before .before .before .before .before .before .before .pre .1, found t (c .before .before .before .before .before) .within)
+node-row-requires t c κs = (c .before .before .before .before .before .before .before .before .before .before .before .pre .1, found t (c .before .before .before .before .before) .within)
 
 check-kind-requires : (t : ℕ) → lts.Need-check-kind-requires (calls t) (node-is t) reads.Post Inv-loop μ-loop
 check-kind-requires t c κs = search needs
@@ -194,7 +194,7 @@ sub-validate-reachable-node t c = omega (arith, entered t (c .before .before .be
 
 validate-reachable-node-requires : (t : ℕ) → lts.Need-validate-reachable-node-requires (calls t) (node-is t) reads.Post Inv-loop μ-loop
 validate-reachable-node-requires t c κs = (
-  omega (arith, c .before .before .before .before .before .before .before .before .before .before .before .before .before .before .before .before .before .before .before .before .before .before .pre .0, entered t (c .before .before .before .before .before .before) .deep),
+  omega (arith, c .before .before .before .before .before .before .before .before .before .before .before .before .before .before .before .before .before .before .before .before .before .before .before .pre .0, entered t (c .before .before .before .before .before .before) .deep),
   entered t (c .before .before .before .before .before .before) .opens,
 )
 

@@ -15,10 +15,10 @@ use Rattle.topology.proofs.check_targets_of.Statement.{statement}
 use Rattle.topology.proofs.check_targets_of.Tie as tie
 
 abbrev Inv-loop : tie.InvT-loop
-Inv-loop sheet k n i₀ i = (i ≤ n) × (first i (λ j. missing (gameOf sheet) (field sheet k j 8)) ≡ none)
+Inv-loop sheet hints k n i₀ i = (i ≤ n) × (first i (λ j. missing (gameOf sheet) (field sheet k j 8)) ≡ none)
 
 abbrev μ-loop : tie.MeasureT-loop
-μ-loop sheet k n i₀ i = n - i
+μ-loop sheet hints k n i₀ i = n - i
 
 row-count-requires : tie.Need-row-count-requires Inv-loop μ-loop
 row-count-requires c κs = search (needs, opens-layout)

@@ -14,11 +14,11 @@ use Rattle.topology.proofs.has_chance.Statement.{statement}
 use Rattle.topology.proofs.has_chance.Tie as tie
 
 abbrev Inv-loop : tie.InvT-loop
-Inv-loop sheet entity n i₀ i =
+Inv-loop sheet hints entity n i₀ i =
     (i ≤ n) × (anyChance (gameOf sheet) (childrenOf entity (gameOf sheet .children)) ≡ anyChance (gameOf sheet) (childrenLeft sheet entity n i))
 
 abbrev μ-loop : tie.MeasureT-loop
-μ-loop sheet entity n i₀ i = n - i
+μ-loop sheet hints entity n i₀ i = n - i
 
 row-count-requires : tie.Need-row-count-requires Inv-loop μ-loop
 row-count-requires c κs = search (needs, opens-layout)
