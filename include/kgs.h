@@ -56,18 +56,18 @@ typedef struct {
 
 /*
  * The chance-weighted solve of the sheet's `len` bytes from the entity `start`. `limit` is the greatest depth, the
- * start being at depth 1: 1 to 64, or 0, which means 32. Returns the solution. Stack: 512 KB.
+ * start being at depth 1: 1 to 64, or 0, which means 32. Returns the solution. Stack: 256 KB.
  */
 kgs_solution kgs_solve(const uint8_t *sheet, size_t len, uint32_t start, uint64_t limit);
 
-/* The solve of a game without chance: as kgs_solve, but a chance node is refused. Stack: 512 KB. */
+/* The solve of a game without chance: as kgs_solve, but a chance node is refused. Stack: 256 KB. */
 kgs_solution kgs_solve_plain(const uint8_t *sheet, size_t len, uint32_t start, uint64_t limit);
 
 /*
  * Lists the paths from `start` by action edges, at chance nodes too, depth first in edge order, into `out`, which has
  * room for `out_len` u64s; `limit` as in kgs_solve. Returns the count written. Each path is
  *   terminal, payoff count, action count, the label numbers first to last, the payoffs' bits.
- * Stack: 64 KB.
+ * Stack: 96 KB.
  */
 kgs_written kgs_paths(const uint8_t *sheet, size_t len, uint32_t start, uint64_t limit, uint64_t *out, size_t out_len);
 
@@ -75,11 +75,11 @@ kgs_written kgs_paths(const uint8_t *sheet, size_t len, uint32_t start, uint64_t
  * Lists the sheet's information sets by rising id into `out`, which has room for `out_len` u64s. Returns the count
  * written. Each set is
  *   id, player, member count, action count, the members in row order, the label numbers of the first member's actions.
- * Stack: 16 KB.
+ * Stack: 32 KB.
  */
 kgs_written kgs_sets(const uint8_t *sheet, size_t len, uint64_t *out, size_t out_len);
 
-/* Checks the tree that the child rows make from the sheet's root. Returns its first fault. Stack: 256 KB. */
+/* Checks the tree that the child rows make from the sheet's root. Returns its first fault. Stack: 320 KB. */
 kgs_refusal kgs_topology(const uint8_t *sheet, size_t len);
 
 /*

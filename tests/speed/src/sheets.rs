@@ -1,6 +1,6 @@
 //! The shapes of the sheets that are timed.
 
-use crate::draft::{field, row, Draft};
+use crate::draft::{field, row, set_field, Draft};
 use crate::random::Random;
 use crate::sheet::*;
 
@@ -158,6 +158,30 @@ pub fn arranged(mut draft: Draft, order: Order) -> Draft {
             }
         });
     }
+    draft
+}
+
+/// The same rows with entities 65,536 apart, so that all fall into one slot of any table by entity; 1 stays 1.
+pub fn in_one_slot(mut draft: Draft) -> Draft {
+    let apart = |entity: u32| entity.wrapping_sub(1).wrapping_mul(65_536).wrapping_add(1);
+    let places: [(usize, &[usize]); 7] = [
+        (NODES, &[0]),
+        (CHILDREN, &[0, 4]),
+        (ACTIONS, &[0, 8]),
+        (CHANCES, &[0, 8]),
+        (TRANSITIONS, &[0, 4]),
+        (TERMINALS, &[0]),
+        (SETS, &[0]),
+    ];
+    for (section, fields) in places {
+        for row in &mut draft.sections[section] {
+            for &at in fields {
+                let entity = field(row, at);
+                set_field(row, at, apart(entity));
+            }
+        }
+    }
+    draft.root = apart(draft.root);
     draft
 }
 

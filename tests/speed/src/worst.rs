@@ -19,12 +19,14 @@ pub const CALLS: [Call; 6] = [
     Call::Topology,
 ];
 
-/// The sheets by name, each with its rows in three orders.
+/// The sheets by name, each with its rows in three orders, and in no order with all entities in one slot.
 pub fn list() -> Vec<(String, Vec<u8>)> {
     let mut sheets = Vec::new();
     for (name, draft) in solved().into_iter().chain(with_sets()).chain(walked_by_children()) {
-        for (order, said) in ORDERS {
-            let bytes = arranged(draft.clone(), order).encode();
+        let crowded = in_one_slot(arranged(draft.clone(), Order::Shuffled));
+        let orders = ORDERS.map(|(order, said)| (arranged(draft.clone(), order), said));
+        for (draft, said) in orders.into_iter().chain([(crowded, "shuffled, all in one slot")]) {
+            let bytes = draft.encode();
             assert!(bytes.len() <= LONGEST, "{name} fits a sheet");
             sheets.push((format!("{name}, {said}"), bytes));
         }
