@@ -152,125 +152,24 @@ fn check_text(sheet: &[u8], i: usize) -> Check
     Check::Passed
 }
 
-// The first n rows of a section: a loop for each kind, so that no row asks for its section.
-fn check_nodes(sheet: &[u8], n: usize) -> Check
-    requires { ⌜ RowsOf (now sheet) 0 n ⌝ }
-    ensures { λ r. ⌜ faultOf r ≡ first n (nodeFault (now (sheet .entry))) ⌝ }
+// Row i of section k, but for a repeated entity.
+fn check_row(sheet: &[u8], k: usize, i: usize) -> Check
+    requires { ⌜ RowOf (now sheet) k i ⌝ }
+    ensures { λ r. ⌜ faultOf r ≡ fieldsFault (now (sheet .entry)) k i ⌝ }
 {
-    let mut i = 0;
-    while i < n {
-        let v = check_node(sheet, i);
-        if let Check::Refused(_) = v {
-            return v;
-        }
-        i += 1;
+    match k {
+        0 => check_node(sheet, i),
+        1 => Check::Passed,
+        2 => check_label_use(sheet, 2, i),
+        3 => check_chance(sheet, i),
+        4 => Check::Passed,
+        5 => check_terminal(sheet, i),
+        6 => check_payoff(sheet, i),
+        7 => check_set(sheet, i),
+        8 => check_label(sheet, i),
+        9 => check_text(sheet, i),
+        _ => Check::Passed,
     }
-    Check::Passed
-}
-
-fn check_actions(sheet: &[u8], n: usize) -> Check
-    requires { ⌜ RowsOf (now sheet) 2 n ⌝ }
-    ensures { λ r. ⌜ faultOf r ≡ first n (labelFault (now (sheet .entry)) 2) ⌝ }
-{
-    let mut i = 0;
-    while i < n {
-        let v = check_label_use(sheet, 2, i);
-        if let Check::Refused(_) = v {
-            return v;
-        }
-        i += 1;
-    }
-    Check::Passed
-}
-
-fn check_chances(sheet: &[u8], n: usize) -> Check
-    requires { ⌜ RowsOf (now sheet) 3 n ⌝ }
-    ensures { λ r. ⌜ faultOf r ≡ first n (chanceFault (now (sheet .entry))) ⌝ }
-{
-    let mut i = 0;
-    while i < n {
-        let v = check_chance(sheet, i);
-        if let Check::Refused(_) = v {
-            return v;
-        }
-        i += 1;
-    }
-    Check::Passed
-}
-
-fn check_terminals(sheet: &[u8], n: usize) -> Check
-    requires { ⌜ RowsOf (now sheet) 5 n ⌝ }
-    ensures { λ r. ⌜ faultOf r ≡ first n (terminalFault (now (sheet .entry))) ⌝ }
-{
-    let mut i = 0;
-    while i < n {
-        let v = check_terminal(sheet, i);
-        if let Check::Refused(_) = v {
-            return v;
-        }
-        i += 1;
-    }
-    Check::Passed
-}
-
-fn check_payoffs(sheet: &[u8], n: usize) -> Check
-    requires { ⌜ RowsOf (now sheet) 6 n ⌝ }
-    ensures { λ r. ⌜ faultOf r ≡ first n (payoffFault (now (sheet .entry))) ⌝ }
-{
-    let mut i = 0;
-    while i < n {
-        let v = check_payoff(sheet, i);
-        if let Check::Refused(_) = v {
-            return v;
-        }
-        i += 1;
-    }
-    Check::Passed
-}
-
-fn check_sets(sheet: &[u8], n: usize) -> Check
-    requires { ⌜ RowsOf (now sheet) 7 n ⌝ }
-    ensures { λ r. ⌜ faultOf r ≡ first n (setFault (now (sheet .entry))) ⌝ }
-{
-    let mut i = 0;
-    while i < n {
-        let v = check_set(sheet, i);
-        if let Check::Refused(_) = v {
-            return v;
-        }
-        i += 1;
-    }
-    Check::Passed
-}
-
-fn check_labels(sheet: &[u8], n: usize) -> Check
-    requires { ⌜ RowsOf (now sheet) 8 n ⌝ }
-    ensures { λ r. ⌜ faultOf r ≡ first n (labelRowFault (now (sheet .entry))) ⌝ }
-{
-    let mut i = 0;
-    while i < n {
-        let v = check_label(sheet, i);
-        if let Check::Refused(_) = v {
-            return v;
-        }
-        i += 1;
-    }
-    Check::Passed
-}
-
-fn check_bytes(sheet: &[u8], n: usize) -> Check
-    requires { ⌜ RowsOf (now sheet) 9 n ⌝ }
-    ensures { λ r. ⌜ faultOf r ≡ first n (textFault (now (sheet .entry))) ⌝ }
-{
-    let mut i = 0;
-    while i < n {
-        let v = check_text(sheet, i);
-        if let Check::Refused(_) = v {
-            return v;
-        }
-        i += 1;
-    }
-    Check::Passed
 }
 
 // The first n rows of section k, but for repeated entities.
@@ -278,19 +177,15 @@ fn check_fields(sheet: &[u8], k: usize, n: usize) -> Check
     requires { ⌜ RowsOf (now sheet) k n ⌝ }
     ensures { λ r. ⌜ faultOf r ≡ first n (fieldsFault (now (sheet .entry)) k) ⌝ }
 {
-    match k {
-        0 => check_nodes(sheet, n),
-        1 => Check::Passed,
-        2 => check_actions(sheet, n),
-        3 => check_chances(sheet, n),
-        4 => Check::Passed,
-        5 => check_terminals(sheet, n),
-        6 => check_payoffs(sheet, n),
-        7 => check_sets(sheet, n),
-        8 => check_labels(sheet, n),
-        9 => check_bytes(sheet, n),
-        _ => Check::Passed,
+    let mut i = 0;
+    while i < n {
+        let v = check_row(sheet, k, i);
+        if let Check::Refused(_) = v {
+            return v;
+        }
+        i += 1;
     }
+    Check::Passed
 }
 
 fn has_entity(k: usize) -> bool

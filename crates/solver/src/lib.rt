@@ -117,9 +117,7 @@ fn solve_decision(
         let turn = turns::reply_to(heads, payoffs, player, best, edge, at);
         match turn {
             ReplyTurn::Stop(r) => return Visit::Refused(r),
-            ReplyTurn::Go(next) => {
-                best = next;
-            }
+            ReplyTurn::Go(next) => best = next,
         }
         deepest = memo::deeper(heads, deepest, at);
     }

@@ -11,9 +11,9 @@ use lib.Seq.{getD-set-same, getD-set-other}
 use Rattle.layout.specs.Layout.{rowCount, field}
 use Rattle.sheet.specs.Meaning.{gameOf, Opens}
 use Rattle.topology.specs.Topology.{isIn}
-use Rattle.topology.specs.Marks.{Sound, Marks}
+use Rattle.topology.specs.Marks.{Sound, Marks, NodeAt}
 use Rattle.topology.proofs.PathLaws.{in-here, in-there}
-use Rattle.topology.proofs.NodeRows.{NodeAt, nodes-differ}
+use Rattle.topology.proofs.NodeRows.{nodes-differ}
 
 module _ (s : List ℕ) (ok : Opens s) (e row : ℕ) (node : NodeAt s e row) where
   -- what holds at e's row and at the row of each other node holds of every row

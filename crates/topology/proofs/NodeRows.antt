@@ -18,16 +18,12 @@ use Rattle.opening.specs.SheetFault.{hasEntity}
 use Rattle.opening.proofs.AcceptedRows.{entities-differ}
 use Rattle.graph_relations.proofs.Lookup.{row-found, lookup-found, lookup-missing}
 use Rattle.game.specs.declared.Node.{Node}
-use Rattle.game.specs.Game.{nodeOf, kindOf}
+use Rattle.game.specs.Game.{nodeOf}
 use Rattle.sheet.specs.Meaning.{nodeRow, gameOf, Opens}
 use Rattle.sheet.proofs.OpeningLaws.{opens-layout}
 use Rattle.topology.specs.Topology.{missing}
+use Rattle.topology.specs.Marks.{NodeAt}
 use Rattle.topology.proofs.WalkLaws.{node-kind, no-node, missing-is}
-
-pub record NodeAt (s : List ℕ) (e row : ℕ) : Type 0 where
-  pub within : row < rowCount s 0
-  pub named : field s 0 row 0 ≡ e
-  pub kind : kindOf (gameOf s) e ≡ some (nodeRow s row .kind)
 
 module _ (s : List ℕ) (e : ℕ) (f : Found) (found : foundAt f ≡ findRow (width s 0) (section s 0) (rowCount s 0) e) where
   pub node-at : (row : ℕ) → f ≡ At row → NodeAt s e row

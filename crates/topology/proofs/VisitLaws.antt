@@ -19,12 +19,15 @@ use Rattle.graph_relations.specs.declared.Child.{Child}
 use Rattle.graph_relations.specs.declared.Child.the-variants.{Of, Other}
 use Rattle.graph_relations.specs.Relations.{childIn, childrenOf, childOf}
 use Rattle.graph_relations.specs.RelationRows.{childRow}
+use Rattle.game.specs.declared.Node.{Node}
+use Rattle.game.specs.Game.{kindOf}
 use Rattle.sheet.specs.Meaning.{nodeRow, gameOf, Opens}
+use Rattle.topology.specs.declared.Entered.{Entered}
+use Rattle.topology.specs.declared.Entered.the-variants.{Done, New}
 use Rattle.topology.specs.Topology.{isIn, missing, kindFault, walkFault}
-use Rattle.topology.specs.Marks.{Way, Marks, Visit, Visits}
+use Rattle.topology.specs.Marks.{Way, Marks, Visit, Visits, NodeAt, Ready, Enters}
 use Rattle.topology.proofs.WalkLaws.{not-missing, walk-cycle, walk-missing, walk-kind, walk-below, way-on, walk-sound, sound-walk}
 use Rattle.topology.proofs.ChildrenLeft.{childrenLeft, left-all, left-child, left-none, left-skips, left-gives}
-use Rattle.topology.proofs.NodeRows.{NodeAt}
 use Rattle.topology.proofs.MarkLaws.{mark-visiting, mark-visited}
 
 -- ---- a visit that goes no further
@@ -75,12 +78,26 @@ module _ (s : List ℕ) (left d e : ℕ) (marks : List ℕ) (deep : left ≡ suc
       off-path : (path : List ℕ) → Marks s path marks → isIn e path ≡ false
       off-path path m = on-path path m ∙ ne-eqb _ 1 new
 
-      pub visit-kind : (v : Check) (after : List ℕ) (r : Refusal) → faultOf v ≡ kindFault (gameOf s) e (some (nodeRow s row .kind)) → v ≡ Refused r → Visits s left e marks v after
-      visit-kind v after r says p =
-          refused-by s left e marks v after r (ap faultOf p)
-          (λ path way m.
-          at-depth path _
-          (walk-kind (gameOf s) d path e (off-path path m) is-node r (ap (kindFault (gameOf s) e) (node .kind) ∙ sym says ∙ ap faultOf p)))
+      -- the check of the kind that its row gives
+      module _ (n : Node) (read : n ≡ nodeRow s row) (v : Check) (says : faultOf v ≡ kindFault (gameOf s) e (some (n .kind))) where
+        says-kind : faultOf v ≡ kindFault (gameOf s) e (kindOf (gameOf s) e)
+        says-kind = says ∙ ap (λ (x : Node). kindFault (gameOf s) e (some (x .kind))) read ∙ ap (kindFault (gameOf s) e) (sym (node .kind))
+
+        pub visit-kind : (after : List ℕ) (r : Refusal) → v ≡ Refused r → Visits s left e marks v after
+        visit-kind after r p =
+            refused-by s left e marks v after r (ap faultOf p)
+            (λ path way m. at-depth path _ (walk-kind (gameOf s) d path e (off-path path m) is-node r (sym says-kind ∙ ap faultOf p)))
+
+        pub kind-passed : v ≡ Passed → Ready s left e marks row
+        kind-passed p = record { deep = omega (arith, deep); node = node; new = new; kind = sym says-kind ∙ ap faultOf p }
+
+-- ---- an entity that was entered
+module _ (s : List ℕ) (left e : ℕ) (marks : List ℕ) (v : Entered) (enters : Enters s left e marks v) where
+  pub entered-done : (w : Check) → v ≡ Done w → Visits s left e marks w marks
+  entered-done w p = rw p at enters
+
+  pub entered-new : (row : ℕ) → v ≡ New row → Ready s left e marks row
+  entered-new row p = rw p at enters
 
 -- ---- the loop over the children
 module _ (s : List ℕ) (d e : ℕ) (path : List ℕ) where
@@ -134,26 +151,24 @@ module _ (s : List ℕ) (d e n : ℕ) (counted : n ≡ rowCount s 1) (start : Li
 
 -- ---- from the loop to the visit
 -- what is known of an entity whose children are walked, with n child rows
-pub record Entered (s : List ℕ) (left d e : ℕ) (marks : List ℕ) (row n : ℕ) : Type 0 where
+pub record Walking (s : List ℕ) (left d e : ℕ) (marks : List ℕ) (row n : ℕ) : Type 0 where
   pub opens : Opens s
   pub deep : left ≡ suc d
-  pub node : NodeAt s e row
-  pub new : getD marks row 0 ≡ 1 → ⊥
-  pub kind : kindFault (gameOf s) e (some (nodeRow s row .kind)) ≡ none
+  pub ready : Ready s left e marks row
   pub counted : n ≡ rowCount s 1
 
-module _ (s : List ℕ) (left d e : ℕ) (marks : List ℕ) (row n : ℕ) (x : Entered s left d e marks row n) where
+module _ (s : List ℕ) (left d e : ℕ) (marks : List ℕ) (row n : ℕ) (x : Walking s left d e marks row n) where
   -- its walk is that of its children, with the entity on the path
   walked-below : {P : Type 0} (path : List ℕ) → Way (gameOf s) left path e → Marks s path marks
       → (isIn e path ≡ false → walkFault (gameOf s) left path e ≡ faultBelow s d e path (childrenOf e (gameOf s .children))
       → Ways s d e path → Marks s (e ∷ path) (set marks row 1) → P) → P
   walked-below path way m next =
-      let out : isIn e path ≡ false = off-path s left d e marks (x .deep) row (x .node) (x .new) path m in
-      let is : missing (gameOf s) e ≡ none = is-node s left d e marks (x .deep) row (x .node) in
+      let out : isIn e path ≡ false = off-path s left d e marks (x .deep) row (x .ready .node) (x .ready .new) path m in
+      let is : missing (gameOf s) e ≡ none = is-node s left d e marks (x .deep) row (x .ready .node) in
       next out
-      (at-depth s left d e marks (x .deep) path _ (walk-below (gameOf s) d path e out is (ap (kindFault (gameOf s) e) (x .node .kind) ∙ x .kind)))
+      (at-depth s left d e marks (x .deep) path _ (walk-below (gameOf s) d path e out is (x .ready .kind)))
       (way-on (gameOf s) d path e (subst (λ (k : ℕ). Way (gameOf s) k path e) (x .deep) way) out is)
-      (mark-visiting s (x .opens) e row (x .node) path marks m)
+      (mark-visiting s (x .opens) e row (x .ready .node) path marks m)
 
   module _ (i : ℕ) (now : List ℕ) (turns : Turns s d e n (set marks row 1) i now) where
     pub visit-stops : (child : Child) → i < n → childOf child ≡ childIn e (childRow s i) → (c : ℕ) → child ≡ Of c
@@ -173,5 +188,5 @@ module _ (s : List ℕ) (left d e : ℕ) (marks : List ℕ) (row n : ℕ) (x : E
         let clear : walkFault (gameOf s) left path e ≡ none = walks ∙ t .fault ∙ ap (faultBelow s d e path) (left-none s e n i l) ∙ first-empty _ in
         record {
           fault = sym clear;
-          kept = λ p. mark-visited s (x .opens) e row (x .node) path now out (walk-sound (gameOf s) left path e clear) (t .marks);
+          kept = λ p. mark-visited s (x .opens) e row (x .ready .node) path now out (walk-sound (gameOf s) left path e clear) (t .marks);
         })

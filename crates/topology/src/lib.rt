@@ -7,7 +7,7 @@ ghost use Rattle.layout.specs.Layout.{width, rowCount, field};
 ghost use Rattle.graph_relations.specs.Relations.{childrenOf};
 ghost use Rattle.sheet.specs.Meaning.{gameOf, Opens};
 ghost use Rattle.topology.specs.Topology.{missing, targetsFault, anyChance, kindFault, topology, checked};
-ghost use Rattle.topology.specs.Marks.{Visits};
+ghost use Rattle.topology.specs.Marks.{Visits, Enters};
 use answer::Check;
 use answer::refuse;
 use game::Kind;
@@ -21,6 +21,12 @@ use sheet::TerminalFound;
 const VISITING: u8 = 1;
 
 const VISITED: u8 = 2;
+
+// A node that is entered: done with, or new, with its children to be walked and its row to be marked.
+enum Entered {
+    Done(Check),
+    New(usize),
+}
 
 // Refusal 11 of an entity that is no node.
 fn check_node(sheet: &[u8], hints: &[u16], entity: u32) -> Check
@@ -106,6 +112,32 @@ fn check_kind(sheet: &[u8], hints: &[u16], entity: u32, kind: Kind) -> Check
     }
 }
 
+// Enters a node: 12 where no depth is left, 11, 12 where it is on the way, passed where it is visited, then the refusals of its kind.
+fn enter(sheet: &[u8], hints: &[u16], entity: u32, left: usize, marks: &[u8; 1024]) -> Entered
+    requires { ⌜ Opens (now sheet) ⌝ }
+    ensures { λ r. ⌜ Enters (now (sheet .entry)) left entity (now (marks .entry)) r ⌝ }
+{
+    if left == 0 {
+        return Entered::Done(refuse(12, entity as u64, 0, 0, 0));
+    }
+    let Found::At(row) = lookup::find_row(sheet, hints, 0, entity) else {
+        return Entered::Done(refuse(11, entity as u64, 0, 0, 0));
+    };
+    if marks[row] == VISITING {
+        return Entered::Done(refuse(12, entity as u64, 0, 0, 0));
+    }
+    if marks[row] == VISITED {
+        return Entered::Done(Check::Passed);
+    }
+    let node = sheet::node_row(sheet, row);
+    let kind = node.kind;
+    let v = check_kind(sheet, hints, entity, kind);
+    if let Check::Refused(_) = v {
+        return Entered::Done(v);
+    }
+    Entered::New(row)
+}
+
 // The walk from an entity, with a mark for each node row: each node's children are walked once. `left` is the depth that is left:
 // more than there are nodes that are not on the way, so it is never spent.
 fn validate_reachable_node(
@@ -118,40 +150,28 @@ fn validate_reachable_node(
     requires { ⌜ Opens (now sheet) ⌝ }
     ensures { λ r. ⌜ Visits (now (sheet .entry)) left entity (now (marks .entry)) r (now (marks .exit)) ⌝ }
 {
-    if left == 0 {
-        return refuse(12, entity as u64, 0, 0, 0);
-    }
-    let Found::At(row) = lookup::find_row(sheet, hints, 0, entity) else {
-        return refuse(11, entity as u64, 0, 0, 0);
-    };
-    if marks[row] == VISITING {
-        return refuse(12, entity as u64, 0, 0, 0);
-    }
-    if marks[row] == VISITED {
-        return Check::Passed;
-    }
-    let node = sheet::node_row(sheet, row);
-    let kind = node.kind;
-    let v = check_kind(sheet, hints, entity, kind);
-    if let Check::Refused(_) = v {
-        return v;
-    }
-    marks[row] = VISITING;
-    let n = layout::row_count(sheet, 1);
-    let mut i = 0;
-    while i < n {
-        let Child::Of(child) = graph_relations::children_of(sheet, entity, i) else {
-            i += 1;
-            continue;
-        };
-        let below = validate_reachable_node(sheet, hints, child, left - 1, marks);
-        if let Check::Refused(_) = below {
-            return below;
+    let entered = enter(sheet, hints, entity, left, marks);
+    match entered {
+        Entered::Done(v) => v,
+        Entered::New(row) => {
+            marks[row] = VISITING;
+            let n = layout::row_count(sheet, 1);
+            let mut i = 0;
+            while i < n {
+                let Child::Of(child) = graph_relations::children_of(sheet, entity, i) else {
+                    i += 1;
+                    continue;
+                };
+                let below = validate_reachable_node(sheet, hints, child, left - 1, marks);
+                if let Check::Refused(_) = below {
+                    return below;
+                }
+                i += 1;
+            }
+            marks[row] = VISITED;
+            Check::Passed
         }
-        i += 1;
     }
-    marks[row] = VISITED;
-    Check::Passed
 }
 
 // Any bytes: refusals 1 to 10, then those of the topology.

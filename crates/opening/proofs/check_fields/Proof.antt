@@ -1,98 +1,62 @@
--- `check_fields` answers, by the section's number, what the section's own loop answers.
-use mathlib.Core.Path.{_≡_, refl, sym}
-use Rattle.answer.proofs.FaultLaws.{first-none}
-use Rattle.layout.proofs.Sections.{each-section}
+-- `check_fields` answers the first fault among n rows. The loop's invariant: the rows so far pass.
+use Prim.Native.Nat.{_-_, _≤_}
+use mathlib.Core.Option.{none}
+use mathlib.Core.Path.{_≡_}
+use native.Mathlib.Omega.{arith}
+use borrow.Author.Needs.{needs}
+use Rattle.answer.specs.Fault.{first}
+use Rattle.answer.proofs.FaultLaws.{first-zero}
+use Rattle.answer.proofs.Loops.{passed-on, refused-at, all-passed}
 use Rattle.opening.specs.Faults.{fieldsFault}
+use Rattle.opening.proofs.RowWidths.{row-among}
 use Rattle.opening.proofs.check_fields.Statement.{statement}
 use Rattle.opening.proofs.check_fields.Tie as tie
 
-check-nodes-requires : tie.Need-check-nodes-requires
-check-nodes-requires c κs = rw (c .match .keys1) at (c .before .before .pre)
+abbrev Inv-loop : tie.InvT-loop
+Inv-loop sheet k n i₀ i = (i ≤ n) × (first i (fieldsFault sheet k) ≡ none)
 
-check-actions-requires : tie.Need-check-actions-requires
-check-actions-requires c κs = rw (c .match .keys3) at (c .before .before .pre)
+abbrev μ-loop : tie.MeasureT-loop
+μ-loop sheet k n i₀ i = n - i
 
-check-chances-requires : tie.Need-check-chances-requires
-check-chances-requires c κs = rw (c .match .keys4) at (c .before .before .pre)
+loop-holds : tie.Need-loop-holds Inv-loop μ-loop
+loop-holds c = (omega arith, first-zero _)
 
-check-terminals-requires : tie.Need-check-terminals-requires
-check-terminals-requires c κs = rw (c .match .keys6) at (c .before .before .pre)
+check-row-requires : tie.Need-check-row-requires Inv-loop μ-loop
+check-row-requires c κs = row-among (c .before .before .before .pre) (c .loop-test .taken)
 
-check-payoffs-requires : tie.Need-check-payoffs-requires
-check-payoffs-requires c κs = rw (c .match .keys7) at (c .before .before .pre)
+enum-told : tie.Need-enum-told Inv-loop μ-loop
+enum-told c = search needs
 
-check-sets-requires : tie.Need-check-sets-requires
-check-sets-requires c κs = rw (c .match .keys8) at (c .before .before .pre)
+returns : tie.Need-returns Inv-loop μ-loop
+returns c = refused-at _ _ (c .before .before .before .before .loop .inv .1) _ _ _ (search needs) (c .before .before .check-row .ensures) (c .enum-told .given .1)
 
-check-labels-requires : tie.Need-check-labels-requires
-check-labels-requires c κs = rw (c .match .keys9) at (c .before .before .pre)
+enum-told-2 : tie.Need-enum-told-2 Inv-loop μ-loop
+enum-told-2 c = search needs
 
-check-bytes-requires : tie.Need-check-bytes-requires
-check-bytes-requires c κs = rw (c .match .keys10) at (c .before .before .pre)
+add-i : tie.Need-add-i Inv-loop μ-loop
+add-i c = omega arith
 
-returns : tie.Need-returns
-unfolding fieldsFault
-returns c = rw (c .before .match .keys1) (c .check-nodes .ensures)
+loop-less : tie.Need-loop-less Inv-loop μ-loop
+loop-less c = omega arith
 
-returns-2 : tie.Need-returns-2
-unfolding fieldsFault
-returns-2 c = rw (c .match .keys2) (sym (first-none _ _ (λ i l. refl)))
+loop-again : tie.Need-loop-again Inv-loop μ-loop
+loop-again c = (omega arith, passed-on _ _ (c .before .before .before .before .loop .inv .1) _ (c .before .before .check-row .ensures) (c .enum-told2 .given .1))
 
-returns-3 : tie.Need-returns-3
-unfolding fieldsFault
-returns-3 c = rw (c .before .match .keys3) (c .check-actions .ensures)
-
-returns-4 : tie.Need-returns-4
-unfolding fieldsFault
-returns-4 c = rw (c .before .match .keys4) (c .check-chances .ensures)
-
-returns-5 : tie.Need-returns-5
-unfolding fieldsFault
-returns-5 c = rw (c .match .keys5) (sym (first-none _ _ (λ i l. refl)))
-
-returns-6 : tie.Need-returns-6
-unfolding fieldsFault
-returns-6 c = rw (c .before .match .keys6) (c .check-terminals .ensures)
-
-returns-7 : tie.Need-returns-7
-unfolding fieldsFault
-returns-7 c = rw (c .before .match .keys7) (c .check-payoffs .ensures)
-
-returns-8 : tie.Need-returns-8
-unfolding fieldsFault
-returns-8 c = rw (c .before .match .keys8) (c .check-sets .ensures)
-
-returns-9 : tie.Need-returns-9
-unfolding fieldsFault
-returns-9 c = rw (c .before .match .keys9) (c .check-labels .ensures)
-
-returns-10 : tie.Need-returns-10
-unfolding fieldsFault
-returns-10 c = rw (c .before .match .keys10) (c .check-bytes .ensures)
-
-returns-11 : tie.Need-returns-11
-returns-11 c = absurd (each-section (λ j. (c .before .before .args .k ≡ j → ⊥)) (c .match .rest .0 .0 .0 .0 .0 .0 .0 .0 .0 .1) (c .match .rest .0 .0 .0 .0 .0 .0 .0 .0 .1) (c .match .rest .0 .0 .0 .0 .0 .0 .0 .1) (c .match .rest .0 .0 .0 .0 .0 .0 .1) (c .match .rest .0 .0 .0 .0 .0 .1) (c .match .rest .0 .0 .0 .0 .1) (c .match .rest .0 .0 .0 .1) (c .match .rest .0 .0 .1) (c .match .rest .0 .1) (c .match .rest .1) _ (c .before .before .pre .section-number) refl)
+returns-2 : tie.Need-returns-2 Inv-loop μ-loop
+returns-2 c = all-passed _ _ (c .before .loop .inv .1) _ (search needs) (search needs)
 
 pub check-fields-spec : {M : Type 1} → statement M
 check-fields-spec =
     tie.close
     (tie.spec
-    check-nodes-requires
-    check-actions-requires
-    check-chances-requires
-    check-terminals-requires
-    check-payoffs-requires
-    check-sets-requires
-    check-labels-requires
-    check-bytes-requires
+    Inv-loop
+    μ-loop
+    loop-holds
+    check-row-requires
+    enum-told
     returns
-    returns-2
-    returns-3
-    returns-4
-    returns-5
-    returns-6
-    returns-7
-    returns-8
-    returns-9
-    returns-10
-    returns-11)
+    enum-told-2
+    add-i
+    loop-less
+    loop-again
+    returns-2)
