@@ -15,7 +15,7 @@ use Rattle.rows.specs.declared.Found.{Found}
 use Rattle.rows.specs.declared.Found.the-variants.{At, Nothing}
 use Rattle.rows.proofs.RowLaws.{found-in}
 use Rattle.layout.specs.Layout.{width, section, rowCount, field}
-use Rattle.graph_relations.proofs.Lookup.{row-found, lookup-found, lookup-missing}
+use Rattle.lookup.proofs.Lookup.{row-found, lookup-found, lookup-missing}
 use Rattle.game.specs.declared.Kind.the-variants as Kinds
 use Rattle.game.specs.declared.Node.{Node}
 use Rattle.game.specs.Game.{kindOf, kindIn, nodeOf}

@@ -15,7 +15,7 @@ use Rattle.rows.proofs.StoreLaws.{rows-next, rows-end}
 use Rattle.layout.specs.Layout.{width, section, rowCount, field}
 use Rattle.graph_relations.specs.Relations.{ChildRow, TransitionRow, childIn, childrenOf, targetIn, transitionTarget}
 use Rattle.graph_relations.specs.RelationRows.{transitionRow, transitionRows}
-use Rattle.graph_relations.proofs.Lookup.{lookup-found, lookup-missing}
+use Rattle.lookup.proofs.Lookup.{lookup-found, lookup-missing}
 
 -- ---- the child that a row gives
 module _ (parent : ℕ) (r : ChildRow) where

@@ -16,7 +16,7 @@ use Rattle.rows.specs.declared.Found.the-variants.{At, Nothing}
 use Rattle.rows.proofs.RowLaws.{found-in}
 use Rattle.rows.proofs.StoreLaws.{length-rows}
 use Rattle.layout.specs.Layout.{width, section, rowCount, field}
-use Rattle.graph_relations.proofs.Lookup.{lookup-found, lookup-missing}
+use Rattle.lookup.proofs.Lookup.{lookup-found, lookup-missing}
 use Rattle.game.specs.declared.Kind.{Kind}
 use Rattle.game.specs.declared.Node.{Node}
 use Rattle.game.specs.Game.{nodeOf, kindOf, kindIn, terminalOf}

@@ -15,11 +15,10 @@ use Rattle.answer.proofs.Loops.{refused-first, passed-first}
 use Rattle.rows.proofs.StoreLaws.{length-rows}
 use Rattle.layout.specs.Layout.{rootOf, rowCount}
 use Rattle.sheet.specs.Meaning.{nodeRow, gameOf, opening, Opens}
-use Rattle.sheet.proofs.OpeningLaws.{opening-done}
+use Rattle.sheet.proofs.OpeningLaws.{opening-done, few-nodes}
 use Rattle.topology.specs.Topology.{targetsFault, walkFault, topologyFault, topology, checked}
 use Rattle.topology.specs.Marks.{Way, Marks, Visits}
 use Rattle.topology.proofs.PathLaws.{in-nil, fresh-none}
-use Rattle.topology.proofs.NodeRows.{most-nodes}
 
 node-count : (s : List ℕ) → length (gameOf s .nodes) ≡ rowCount s 0
 unfolding gameOf
@@ -41,13 +40,13 @@ start-way s e =
 start-marks : (s : List ℕ) → Opens s → Marks s [] (replicate 1024 0)
 start-marks s ok =
     record {
-      long = rw length-replicate (most-nodes s ok);
+      long = rw length-replicate (few-nodes s ok);
       visiting = λ i l. in-nil _ ∙ rw (new i l);
       visited = λ i l p. absurd (omega (arith, new i l));
     }
   where
     new : (i : ℕ) → i < rowCount s 0 → getD {A = ℕ} (replicate 1024 0) i 0 ≡ 0
-    new i l = getD-replicate 1024 i 0 0 (omega (arith, most-nodes s ok))
+    new i l = getD-replicate 1024 i 0 0 (omega (arith, few-nodes s ok))
 
 module _ (s : List ℕ) where
   pub call-refused : (v : Check) (r : Refusal) → v ≡ Refused r → opening s ≡ refused r → checked v ≡ topology s

@@ -1,5 +1,5 @@
 -- The row of a node: what the search in section 0 found is the row that names the entity, and no two rows name one.
-use Prim.Native.Nat.{ℕ, _≤_, _<_}
+use Prim.Native.Nat.{ℕ, _<_}
 use mathlib.Core.Path.{_≡_, refl, sym, ap, _∙_}
 use mathlib.Core.Bool.{Bool, true, false}
 use mathlib.Core.List.{List}
@@ -12,15 +12,13 @@ use Rattle.rows.specs.Rows.{findRow, foundAt}
 use Rattle.rows.specs.declared.Found.{Found}
 use Rattle.rows.specs.declared.Found.the-variants.{At, Nothing}
 use Rattle.rows.proofs.RowLaws.{found-in}
-use Rattle.layout.specs.Layout.{width, section, rowLimit, rowCount, field}
-use Rattle.layout.proofs.LayoutLaws.{rows-most}
+use Rattle.layout.specs.Layout.{width, section, rowCount, field}
 use Rattle.opening.specs.SheetFault.{hasEntity}
 use Rattle.opening.proofs.AcceptedRows.{entities-differ}
-use Rattle.graph_relations.proofs.Lookup.{row-found, lookup-found, lookup-missing}
+use Rattle.lookup.proofs.Lookup.{row-found, lookup-found, lookup-missing}
 use Rattle.game.specs.declared.Node.{Node}
 use Rattle.game.specs.Game.{nodeOf}
 use Rattle.sheet.specs.Meaning.{nodeRow, gameOf, Opens}
-use Rattle.sheet.proofs.OpeningLaws.{opens-layout}
 use Rattle.topology.specs.Topology.{missing}
 use Rattle.topology.specs.Marks.{NodeAt}
 use Rattle.topology.proofs.WalkLaws.{node-kind, no-node, missing-is}
@@ -47,8 +45,3 @@ nodes-differ s ok i j l m apart p = go (ltb i j) refl
     go : (b : Bool) → ltb i j ≡ b → ⊥
     go true q = entities-differ s ok 0 refl i j (ltb-true i j q) m p
     go false q = entities-differ s ok 0 refl j i (omega (arith, ltb-false i j q)) l (sym p)
-
--- there are at most as many as there are marks
-pub most-nodes : (s : List ℕ) → Opens s → rowCount s 0 ≤ 1024
-unfolding rowLimit
-most-nodes s ok = rows-most s (opens-layout s ok) 0 (omega arith)

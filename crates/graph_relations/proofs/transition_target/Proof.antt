@@ -5,7 +5,7 @@ use borrow.Author.Needs.{needs}
 use Rattle.opening.specs.SheetFault.{hasEntity}
 use Rattle.opening.proofs.AcceptedRows.{layout-ok}
 use Rattle.graph_relations.specs.declared.TransitionTo.{TransitionTo}
-use Rattle.graph_relations.proofs.Lookup.{row-found}
+use Rattle.lookup.proofs.Lookup.{row-found}
 use Rattle.graph_relations.proofs.RelationLaws.{transition-found, transition-missing}
 use Rattle.graph_relations.proofs.transition_target.Statement.{statement}
 use Rattle.graph_relations.proofs.transition_target.Tie as tie

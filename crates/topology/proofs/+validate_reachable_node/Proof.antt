@@ -6,9 +6,8 @@ use borrow.Author.Needs.{needs}
 use borrow.Fn.Kinds.{In}
 use borrow.Fn.PlainCycle.{Measures, is, falls, and}
 use denote.Ref.{now}
-use Rattle.sheet.proofs.OpeningLaws.{opens-layout}
+use Rattle.sheet.proofs.OpeningLaws.{opens-layout, few-nodes}
 use Rattle.topology.specs.Marks.{Ready}
-use Rattle.topology.proofs.NodeRows.{most-nodes}
 use Rattle.topology.proofs.VisitLaws.{Turns, Walking, entered-done, entered-new, turns-start, turns-skip, turns-go, visit-stops, visit-ends}
 use Rattle.topology.proofs.validate_reachable_node.Reads as reads
 use Rattle.topology.proofs.validate_reachable_node.Kinds as kinds
@@ -51,7 +50,7 @@ ready : (t : ℕ) (c : lts.After-entered2 (calls t) (node-is t) reads.Post Inv-l
 ready t c = entered-new _ _ _ _ _ (c .before .before .enter .ensures) _ (c .entered2 .given .1)
 
 has-mark : (t : ℕ) (c : lts.After-entered2 (calls t) (node-is t) reads.Post Inv-loop μ-loop) → c .entered2 .given .0 .0 < 1024
-has-mark t c = omega (arith, ready t c .node .within, most-nodes _ (c .before .before .before .before .before .before .pre .1))
+has-mark t c = omega (arith, ready t c .node .within, few-nodes _ (c .before .before .before .before .before .before .pre .1))
 
 -- what the code knows in its loop
 walking : (t : ℕ) (c : lts.At-loop (calls t) (node-is t) reads.Post Inv-loop μ-loop) → Walking (now (c .before .before .before .before .before .before .before .before .before .args .sheet)) (c .before .before .before .before .before .before .before .before .before .args .left) (c .before .before .before .before .before .before .before .before .before .args .left - 1) (c .before .before .before .before .before .before .before .before .before .args .entity) (now (c .before .before .before .before .before .before .before .before .before .args .marks)) (c .before .before .before .entered2 .given .0 .0) (c .before .row-count .result)

@@ -5,8 +5,9 @@ use native.Mathlib.Omega.{arith}
 use borrow.Author.Needs.{needs}
 use denote.Ref.{now}
 use Rattle.opening.specs.SheetFault.{hasEntity}
+use Rattle.sheet.proofs.OpeningLaws.{few-nodes}
 use Rattle.topology.specs.Marks.{NodeAt}
-use Rattle.topology.proofs.NodeRows.{node-at, not-at, most-nodes}
+use Rattle.topology.proofs.NodeRows.{node-at, not-at}
 use Rattle.topology.proofs.VisitLaws.{visit-spent, visit-missing, visit-cycle, visit-again, visit-kind, kind-passed}
 use Rattle.topology.proofs.enter.Statement.{statement}
 use Rattle.topology.proofs.enter.Tie as tie
@@ -20,7 +21,7 @@ found : (c : tie.After-row) → NodeAt (now (c .before .before .before .before .
 found c = node-at _ _ _ (c .before .before .find-row .ensures) _ (c .row .given .1)
 
 has-mark : (c : tie.After-row) → c .row .given .0 .0 < 1024
-has-mark c = omega (arith, found c .within, most-nodes _ (c .before .before .before .before .before .before .pre))
+has-mark c = omega (arith, found c .within, few-nodes _ (c .before .before .before .before .before .before .pre))
 
 refuse-requires : tie.Need-refuse-requires
 refuse-requires c κs = search needs

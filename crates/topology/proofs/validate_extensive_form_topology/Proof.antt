@@ -2,8 +2,7 @@
 use native.Mathlib.Omega.{arith}
 use denote.Ref.{now}
 use Rattle.sheet.specs.Meaning.{Opens}
-use Rattle.sheet.proofs.OpeningLaws.{opens-layout, passed-opens, refused-opening}
-use Rattle.topology.proofs.NodeRows.{most-nodes}
+use Rattle.sheet.proofs.OpeningLaws.{opens-layout, passed-opens, refused-opening, few-nodes}
 use Rattle.topology.proofs.CallLaws.{call-refused, call-targets, call-walks}
 use borrow.Author.Needs.{needs}
 use Rattle.topology.proofs.validate_extensive_form_topology.Statement.{statement}
@@ -58,7 +57,7 @@ root-of-requires : tie.Need-root-of-requires
 root-of-requires c κs = opens-layout _ (opens (c .before .before .before .before .before .before .before .before .before))
 
 add-validate-reachable-node : tie.Need-add-validate-reachable-node
-add-validate-reachable-node c = omega (arith, c .before .before .row-count .ensures, most-nodes _ (opens (c .before .before .before .before .before .before .before .before .before .before)))
+add-validate-reachable-node c = omega (arith, c .before .before .row-count .ensures, few-nodes _ (opens (c .before .before .before .before .before .before .before .before .before .before)))
 
 validate-reachable-node-requires : tie.Need-validate-reachable-node-requires
 validate-reachable-node-requires c κs = opens (c .before .before .before .before .before .before .before .before .before .before .before)

@@ -1,0 +1,2 @@
+-- What a row that was looked up is, in any section.
+pub mod Lookup
