@@ -3,8 +3,9 @@
 ghost use mathlib.Core.Path.{_≡_};
 ghost use mathlib.Core.Bool.{true, false};
 ghost use Prim.Native.Nat.{_+_, _≤_, _<_};
-ghost use Rattle.rows.specs.Rows.{rowsIn, repeated, Distinct};
+ghost use Rattle.rows.specs.Rows.{rowsIn, findRow, isSome, repeated, Distinct};
 ghost use Rattle.repeats.specs.Repeats.{Within, Slotted, FirstRepeated};
+use rows::Found;
 use rows::field;
 
 // Entities of some rows are at least bottom and below top.
@@ -75,17 +76,34 @@ fn ordered(rows: &[u8], w: usize, n: usize) -> usize
     i
 }
 
-// Whether an earlier row names row i's entity: only those in its slot can, and they are met from the last to the first.
+// Whether one of the first n rows names the entity.
+fn is_named(rows: &[u8], w: usize, n: usize, entity: u32) -> bool
+    requires { ⌜ (n ≤ rowsIn w (now rows)) × (4 ≤ w) ⌝ }
+    ensures { λ r. ⌜ r ≡ isSome (findRow w (now (rows .entry)) n entity) ⌝ }
+{
+    match rows::find_row(rows, w, n, entity) {
+        Found::At(_) => true,
+        Found::Nothing => false,
+    }
+}
+
+// Whether an earlier row names row i's entity: only those in its slot can, and they are met from the last to the first. A slot of many
+// rows is left to a search through all earlier rows, which goes faster from row to row.
 fn is_among(rows: &[u8], w: usize, i: usize, lasts: &[u16], befores: &[u16]) -> bool
     requires { ⌜ (i < rowsIn w (now rows)) × (4 ≤ w) × Slotted w (now rows) i (now lasts) (now befores) ⌝ }
     ensures { λ r. ⌜ r ≡ repeated w (now (rows .entry)) i ⌝ }
 {
     let e = field(rows, w, i, 0);
     let mut p = lasts[(e % 1024) as usize] as usize;
+    let mut met = 0usize;
     while 0 < p {
         if field(rows, w, p - 1, 0) == e {
             return true;
         }
+        if met == 16 {
+            return is_named(rows, w, i, e);
+        }
+        met += 1;
         p = befores[p - 1] as usize;
     }
     false
