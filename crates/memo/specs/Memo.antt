@@ -34,11 +34,18 @@ actionCount x = getD (x .head) 3 0
 abbrev pub payoffCount : Entry → ℕ
 payoffCount x = getD (x .head) 4 0
 
+-- the label of the first action and the row that it leads to, of a head
+abbrev pub labelIn : List ℕ → ℕ
+labelIn head = getD head 5 0
+
+abbrev pub nextIn : List ℕ → ℕ
+nextIn head = getD head 6 0
+
 abbrev pub firstLabel : Entry → ℕ
-firstLabel x = getD (x .head) 5 0
+firstLabel x = labelIn (x .head)
 
 abbrev pub nextRow : Entry → ℕ
-nextRow x = getD (x .head) 6 0
+nextRow x = nextIn (x .head)
 
 -- the payoffs, of a head and an array
 abbrev pub payoffsOf : List ℕ → List Float → List Number
@@ -132,12 +139,12 @@ known head left = ltb 0 (getD head 0 0) && leb (getD head 0 0) left
 -- n labels, along the rows from i on
 unfoldable pub labelsFrom : List (List ℕ) → ℕ → ℕ → List ℕ
 labelsFrom heads zero i = []
-labelsFrom heads (suc n) i = getD (getD heads i []) 5 0 ∷ labelsFrom heads n (getD (getD heads i []) 6 0)
+labelsFrom heads (suc n) i = labelIn (getD heads i []) ∷ labelsFrom heads n (nextIn (getD heads i []))
 
 -- each of these n rows is one of the memo
 abbrev pub Along : List (List ℕ) → ℕ → ℕ → Type 0
 Along heads zero i = Unit
-Along heads (suc n) i = (i < length heads) × Along heads n (getD (getD heads i []) 6 0)
+Along heads (suc n) i = (i < length heads) × Along heads n (nextIn (getD heads i []))
 
 -- the solution that row i has
 unfoldable pub solutionIn : Rows → ℕ → Solution

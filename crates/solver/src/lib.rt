@@ -54,8 +54,7 @@ fn solve_node(
     requires { ⌜ Asks method (now sheet) (now links) (rows (now heads) (now payoffs)) left ⌝ }
     ensures { λ v. ⌜ Visits method (now (sheet .entry)) (rows (now (heads .entry)) (now (payoffs .entry))) (rows (now (heads .exit)) (now (payoffs .exit))) left entity v ⌝ }
 {
-    let entered = entering::enter(sheet, hints, links, heads, payoffs, method, entity, left);
-    match entered {
+    match entering::enter(sheet, hints, links, heads, payoffs, method, entity, left) {
         Entered::Done(v) => v,
         Entered::Decision(row, player) => solve_decision(
             sheet,

@@ -41,13 +41,14 @@ pub fn trees(bench: &mut Bench) -> Done<()> {
     Ok(())
 }
 
-/// Sheets at the format's limits, and two that are in no goal.
+/// Sheets at the format's limits, and one that is in no goal.
 pub fn limits(bench: &mut Bench) -> Done<()> {
     let limits = [
         ("binary tree of 10 levels", full_tree(10, 2, Kinds::Decisions)),
         ("1,024 replies to one terminal", made(|maker| maker.chain(1, 1_024, Kinds::Decisions))),
         ("1,024 outcomes to one terminal", made(|maker| maker.chain(1, 1_024, Kinds::Chances))),
         ("65,536 bytes, 1,000 replies", longest()),
+        ("65,536 bytes, most of them not met by the solve", mostly_unmet()),
     ];
     table("Sheets at the format's limits", COLUMNS);
     for (name, draft) in limits {
@@ -58,10 +59,6 @@ pub fn limits(bench: &mut Bench) -> Done<()> {
     }
     table("In no goal", COLUMNS);
     bench.ratio(&Named::new("01's small sheet", fs::read("samples/worked.kgs")?), &SOLVE, None)?;
-    for (order, said) in ORDERS {
-        let name = format!("65,536 bytes, most of them not met by the solve, rows {said}");
-        bench.ratio(&Named::of(name, arranged(mostly_unmet(), order)), &SOLVE, None)?;
-    }
     Ok(())
 }
 

@@ -422,45 +422,45 @@ solve-decision-returns-3 t c =
 solve-node-enter-requires : (t : ℕ) → solve-node-lts.Need-enter-requires (node-calls t) (solve-node-at t) solve-node.Post
 solve-node-enter-requires t c κs = c .before .before .before .before .before .pre .1
 
-solve-node-enum-known-entered : (t : ℕ) → solve-node-lts.Need-enum-known-entered (node-calls t) (solve-node-at t) solve-node.Post
-solve-node-enum-known-entered t c = search needs
+solve-node-enum-known-v : (t : ℕ) → solve-node-lts.Need-enum-known-v (node-calls t) (solve-node-at t) solve-node.Post
+solve-node-enum-known-v t c = search needs
 
-solve-node-enum-known-entered-2 : (t : ℕ) → solve-node-lts.Need-enum-known-entered-2 (node-calls t) (solve-node-at t) solve-node.Post
-solve-node-enum-known-entered-2 t c = search needs
+solve-node-enum-known-row : (t : ℕ) → solve-node-lts.Need-enum-known-row (node-calls t) (solve-node-at t) solve-node.Post
+solve-node-enum-known-row t c = search needs
 
 solve-node-sub-solve-decision : (t : ℕ) → solve-node-lts.Need-sub-solve-decision (node-calls t) (solve-node-at t) solve-node.Post
 solve-node-sub-solve-decision t c =
     let a = c .before .before .before .before .before .before .before .before .before .before .before .before .before .args in
     let e = c .before .before .before .before .before .before .before .enter in
-    let u = entered-as (rows (a .heads .now) (a .payoffs .now)) (rows (e .last .1 .1 .1 .0) (e .last .1 .1 .1 .1 .0)) (c .before .before .before .entered2 .given .1) (e .ensures) in
+    let u = entered-as (rows (a .heads .now) (a .payoffs .now)) (rows (e .last .1 .1 .1 .0) (e .last .1 .1 .1 .1 .0)) (c .before .before .before .row .given .1) (e .ensures) in
     let d = u .0 in omega arith
 
 solve-node-solve-decision-requires : (t : ℕ) → solve-node-lts.Need-solve-decision-requires (node-calls t) (solve-node-at t) solve-node.Post
 solve-node-solve-decision-requires t c κs =
     let a = c .before .before .before .before .before .before .before .before .before .before .before .before .before .args in
     let e = c .before .before .before .before .before .before .before .enter in
-    let u = entered-as (rows (a .heads .now) (a .payoffs .now)) (rows (e .last .1 .1 .1 .0) (e .last .1 .1 .1 .1 .0)) (c .before .before .before .entered2 .given .1) (e .ensures) in
+    let u = entered-as (rows (a .heads .now) (a .payoffs .now)) (rows (e .last .1 .1 .1 .0) (e .last .1 .1 .1 .1 .0)) (c .before .before .before .row .given .1) (e .ensures) in
     let p = c .before .before .before .before .before .before .before .before .before .before .before .before .before .pre in
     let d = u .0 in
     let measure = p .0 in
     let low = p .1 .low in
     (omega arith, (record { opens = p .1 .opens; linked = p .1 .linked; low = omega arith; memo = e .ensures .memo }, u .1, u .2))
 
-solve-node-enum-known-entered-3 : (t : ℕ) → solve-node-lts.Need-enum-known-entered-3 (node-calls t) (solve-node-at t) solve-node.Post
-solve-node-enum-known-entered-3 t c = search needs
+solve-node-enum-known-row-2 : (t : ℕ) → solve-node-lts.Need-enum-known-row-2 (node-calls t) (solve-node-at t) solve-node.Post
+solve-node-enum-known-row-2 t c = search needs
 
 solve-node-sub-solve-chance : (t : ℕ) → solve-node-lts.Need-sub-solve-chance (node-calls t) (solve-node-at t) solve-node.Post
 solve-node-sub-solve-chance t c =
     let a = c .before .before .before .before .before .before .before .before .before .before .before .before .before .args in
     let e = c .before .before .before .before .before .before .before .enter in
-    let u = entered-as (rows (a .heads .now) (a .payoffs .now)) (rows (e .last .1 .1 .1 .0) (e .last .1 .1 .1 .1 .0)) (c .before .before .before .entered3 .given .1) (e .ensures) in
+    let u = entered-as (rows (a .heads .now) (a .payoffs .now)) (rows (e .last .1 .1 .1 .0) (e .last .1 .1 .1 .1 .0)) (c .before .before .before .row2 .given .1) (e .ensures) in
     let d = u .0 in omega arith
 
 solve-node-solve-chance-requires : (t : ℕ) → solve-node-lts.Need-solve-chance-requires (node-calls t) (solve-node-at t) solve-node.Post
 solve-node-solve-chance-requires t c κs =
     let a = c .before .before .before .before .before .before .before .before .before .before .before .before .before .args in
     let e = c .before .before .before .before .before .before .before .enter in
-    let u = entered-as (rows (a .heads .now) (a .payoffs .now)) (rows (e .last .1 .1 .1 .0) (e .last .1 .1 .1 .1 .0)) (c .before .before .before .entered3 .given .1) (e .ensures) in
+    let u = entered-as (rows (a .heads .now) (a .payoffs .now)) (rows (e .last .1 .1 .1 .0) (e .last .1 .1 .1 .1 .0)) (c .before .before .before .row2 .given .1) (e .ensures) in
     let p = c .before .before .before .before .before .before .before .before .before .before .before .before .before .pre in
     let d = u .0 in
     let measure = p .0 in
@@ -477,7 +477,7 @@ solve-node-returns : (t : ℕ) → solve-node-lts.Need-returns (node-calls t) (s
 solve-node-returns t c =
     let a = c .before .before .before .before .before .before .before .before .before .before .before .args in
     let e = c .before .before .before .before .before .enter in
-    let u = entered-as (rows (a .heads .now) (a .payoffs .now)) (rows (e .last .1 .1 .1 .0) (e .last .1 .1 .1 .1 .0)) (c .before .entered .given .1) (e .ensures) in
+    let u = entered-as (rows (a .heads .now) (a .payoffs .now)) (rows (e .last .1 .1 .1 .0) (e .last .1 .1 .1 .1 .0)) (c .before .v .given .1) (e .ensures) in
     record { memo = e .ensures .memo; extends = e .ensures .extends; visited = u }
 
 solve-node-same-length-3 : (t : ℕ) → solve-node-lts.Need-same-length-3 (node-calls t) (solve-node-at t) solve-node.Post
@@ -492,7 +492,7 @@ solve-node-returns-2 : (t : ℕ) → solve-node-lts.Need-returns-2 (node-calls t
 solve-node-returns-2 t c =
     let a = c .before .before .before .before .before .before .before .before .before .before .before .before .before .before .before .before .args in
     let e = c .before .before .before .before .before .before .before .before .before .before .enter in
-    let u = entered-as (rows (a .heads .now) (a .payoffs .now)) (rows (e .last .1 .1 .1 .0) (e .last .1 .1 .1 .1 .0)) (c .before .before .before .before .before .before .entered2 .given .1) (e .ensures) in
+    let u = entered-as (rows (a .heads .now) (a .payoffs .now)) (rows (e .last .1 .1 .1 .0) (e .last .1 .1 .1 .1 .0)) (c .before .before .before .before .before .before .row .given .1) (e .ensures) in
     let n = c .before .before .solve-decision in
     let d = u .0 in
     let whole : a .left - 1 + 1 ≡ a .left = omega arith in
@@ -510,7 +510,7 @@ solve-node-returns-3 : (t : ℕ) → solve-node-lts.Need-returns-3 (node-calls t
 solve-node-returns-3 t c =
     let a = c .before .before .before .before .before .before .before .before .before .before .before .before .before .before .before .before .args in
     let e = c .before .before .before .before .before .before .before .before .before .before .enter in
-    let u = entered-as (rows (a .heads .now) (a .payoffs .now)) (rows (e .last .1 .1 .1 .0) (e .last .1 .1 .1 .1 .0)) (c .before .before .before .before .before .before .entered3 .given .1) (e .ensures) in
+    let u = entered-as (rows (a .heads .now) (a .payoffs .now)) (rows (e .last .1 .1 .1 .0) (e .last .1 .1 .1 .1 .0)) (c .before .before .before .before .before .before .row2 .given .1) (e .ensures) in
     let n = c .before .before .solve-chance in
     let d = u .0 in
     let whole : a .left - 1 + 1 ≡ a .left = omega arith in
@@ -521,4 +521,4 @@ pub +solve-chance+solve-decision+solve-node-spec : {M : Type 1} → statement M
     close μ-solve-chance μ-solve-decision μ-solve-node
     (λ t. solve-chance-lts.spec (chance-calls t) (solve-chance-at t) solve-chance.Post solve-chance-Inv-loop solve-chance-μ-loop (solve-chance-row-count-requires t) (solve-chance-no-sums-requires t) (solve-chance-first-child-requires t) (solve-chance-loop-holds t) (solve-chance-sound-chance-outcome-requires t) (solve-chance-next-child-requires t) (solve-chance-enum-known-step t) (solve-chance-loop-less t) (solve-chance-loop-again t) (solve-chance-solve-node-requires t) (solve-chance-enum-known-v t) (solve-chance-enum-told t) (solve-chance-same-length t) (solve-chance-same-length-2 t) (solve-chance-returns t) (solve-chance-outcome-fault-requires t) (solve-chance-enum-known-fault t) (solve-chance-same-length-3 t) (solve-chance-same-length-4 t) (solve-chance-returns-2 t) (solve-chance-enum-told-2 t) (solve-chance-outcome-to-requires t) (solve-chance-deeper-requires t) (solve-chance-loop-less-2 t) (solve-chance-loop-again-2 t) (solve-chance-store-sums-requires t) (solve-chance-same-length-5 t) (solve-chance-same-length-6 t) (solve-chance-returns-3 t))
     (λ t. solve-decision-lts.spec (decision-calls t) (solve-decision-at t) solve-decision.Post solve-decision-Inv-loop solve-decision-μ-loop (solve-decision-row-count-requires t) (solve-decision-first-child-requires t) (solve-decision-loop-holds t) (solve-decision-sound-action-edge-requires t) (solve-decision-next-child-requires t) (solve-decision-enum-known-step t) (solve-decision-loop-less t) (solve-decision-loop-again t) (solve-decision-solve-node-requires t) (solve-decision-enum-known-v t) (solve-decision-enum-told t) (solve-decision-same-length t) (solve-decision-same-length-2 t) (solve-decision-returns t) (solve-decision-reply-to-requires t) (solve-decision-enum-known-turn t) (solve-decision-same-length-3 t) (solve-decision-same-length-4 t) (solve-decision-returns-2 t) (solve-decision-enum-known-turn-2 t) (solve-decision-deeper-requires t) (solve-decision-loop-less-2 t) (solve-decision-loop-again-2 t) (solve-decision-store-best-requires t) (solve-decision-same-length-5 t) (solve-decision-same-length-6 t) (solve-decision-returns-3 t))
-    (λ t. solve-node-lts.spec (node-calls t) (solve-node-at t) solve-node.Post (solve-node-enter-requires t) (solve-node-enum-known-entered t) (solve-node-enum-known-entered-2 t) (solve-node-sub-solve-decision t) (solve-node-solve-decision-requires t) (solve-node-enum-known-entered-3 t) (solve-node-sub-solve-chance t) (solve-node-solve-chance-requires t) (solve-node-same-length t) (solve-node-same-length-2 t) (solve-node-returns t) (solve-node-same-length-3 t) (solve-node-same-length-4 t) (solve-node-returns-2 t) (solve-node-same-length-5 t) (solve-node-same-length-6 t) (solve-node-returns-3 t))
+    (λ t. solve-node-lts.spec (node-calls t) (solve-node-at t) solve-node.Post (solve-node-enter-requires t) (solve-node-enum-known-v t) (solve-node-enum-known-row t) (solve-node-sub-solve-decision t) (solve-node-solve-decision-requires t) (solve-node-enum-known-row-2 t) (solve-node-sub-solve-chance t) (solve-node-solve-chance-requires t) (solve-node-same-length t) (solve-node-same-length-2 t) (solve-node-returns t) (solve-node-same-length-3 t) (solve-node-same-length-4 t) (solve-node-returns-2 t) (solve-node-same-length-5 t) (solve-node-same-length-6 t) (solve-node-returns-3 t))
