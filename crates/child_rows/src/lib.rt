@@ -4,7 +4,7 @@ ghost use mathlib.Core.Path.{_≡_};
 ghost use Prim.Native.Nat.{ℕ, _+_, _*_, _≤_, _<_};
 ghost use lib.ListN.{length};
 ghost use Rattle.layout.specs.Layout.{rowCount};
-ghost use Rattle.sheet.specs.Meaning.{Opens};
+ghost use Rattle.lookup.specs.Hints.{Noted};
 ghost use Rattle.child_rows.specs.Links.{firstChild, nextChild, LinkedFrom, Linked};
 use rows::Found;
 
@@ -36,7 +36,7 @@ fn unlink(links: &mut [u32], n: usize, end: u32)
 
 // Child row i in front of the child rows of its parent.
 fn link_row(sheet: &[u8], hints: &[u16], links: &mut [u32], i: usize)
-    requires { ⌜ Opens (now sheet) × (i < rowCount (now sheet) 1) × LinkedFrom (now sheet) (i + 1) (now links) ⌝ }
+    requires { ⌜ Noted (now sheet) (now hints) × (i < rowCount (now sheet) 1) × LinkedFrom (now sheet) (i + 1) (now links) ⌝ }
     ensures { λ _. ⌜ LinkedFrom (now (sheet .entry)) i (now (links .exit)) ⌝ }
 {
     let parent = layout::u32_field(sheet, 1, i, 4);
@@ -49,7 +49,7 @@ fn link_row(sheet: &[u8], hints: &[u16], links: &mut [u32], i: usize)
 
 // Links the child rows by parent.
 pub fn link(sheet: &[u8], hints: &[u16], links: &mut [u32])
-    requires { ⌜ Opens (now sheet) × (2 * rowCount (now sheet) 0 ≤ length (now links)) × (2 * rowCount (now sheet) 1 ≤ length (now links)) ⌝ }
+    requires { ⌜ Noted (now sheet) (now hints) × (2 * rowCount (now sheet) 0 ≤ length (now links)) × (2 * rowCount (now sheet) 1 ≤ length (now links)) ⌝ }
     ensures { λ _. ⌜ Linked (now (sheet .entry)) (now (links .exit)) ⌝ }
 {
     let n = layout::row_count(sheet, 1);

@@ -5,11 +5,12 @@ ghost use Prim.Native.Nat.{_<_};
 ghost use Rattle.answer.specs.Fault.{faultOf};
 ghost use Rattle.answer.specs.Answer.{faultIn};
 ghost use Rattle.layout.specs.Layout.{rowCount};
+ghost use Rattle.lookup.specs.Hints.{Noted};
 ghost use Rattle.graph_relations.specs.Relations.{transitionTarget};
 ghost use Rattle.graph_relations.specs.RelationRows.{childRow};
 ghost use Rattle.game.specs.Game.{actionOf, chanceOf};
 ghost use Rattle.game.specs.Edges.{transitionFault, edgeOf, outgoingActionEdges, outgoingChanceOutcomes, actionEdgeIn, chanceOutcomeIn};
-ghost use Rattle.sheet.specs.Meaning.{gameOf, Opens};
+ghost use Rattle.sheet.specs.Meaning.{gameOf};
 ghost use Rattle.child_rows.specs.Links.{NextOf, Chain};
 ghost use Rattle.edges.specs.Steps.{actionStep, chanceStep};
 use answer::Check;
@@ -38,7 +39,7 @@ pub enum ChanceStep {
 
 // Refusals 14 and 15 of an edge whose row names the target.
 fn check_transition(sheet: &[u8], hints: &[u16], edge: u32, target: u32) -> Check
-    requires { ⌜ Opens (now sheet) ⌝ }
+    requires { ⌜ Noted (now sheet) (now hints) ⌝ }
     ensures { λ r. ⌜ faultOf r ≡ transitionFault edge target (transitionTarget edge (gameOf (now (sheet .entry)) .transitions)) ⌝ }
 {
     let Target::To(to) = graph_relations::transition_target(sheet, hints, edge) else {
@@ -52,7 +53,7 @@ fn check_transition(sheet: &[u8], hints: &[u16], edge: u32, target: u32) -> Chec
 
 // An entity as an action edge.
 fn checked_action(sheet: &[u8], hints: &[u16], entity: u32) -> ActionStep
-    requires { ⌜ Opens (now sheet) ⌝ }
+    requires { ⌜ Noted (now sheet) (now hints) ⌝ }
     ensures { λ r. ⌜ actionStep r ≡ edgeOf (gameOf (now (sheet .entry))) (actionOf (gameOf (now (sheet .entry)))) (λ a. a .target) entity ⌝ }
 {
     let ActionFound::Found(action) = sheet::find_action(sheet, hints, entity) else {
@@ -66,7 +67,7 @@ fn checked_action(sheet: &[u8], hints: &[u16], entity: u32) -> ActionStep
 
 // The action edge of the source in child row i.
 pub fn action_edge(sheet: &[u8], hints: &[u16], source: u32, i: usize) -> ActionStep
-    requires { ⌜ Opens (now sheet) × (i < rowCount (now sheet) 1) ⌝ }
+    requires { ⌜ Noted (now sheet) (now hints) × (i < rowCount (now sheet) 1) ⌝ }
     ensures { λ r. ⌜ actionStep r ≡ actionEdgeIn (gameOf (now (sheet .entry))) source (childRow (now (sheet .entry)) i) ⌝ }
 {
     let Child::Of(entity) = graph_relations::children_of(sheet, source, i) else {
@@ -77,7 +78,7 @@ pub fn action_edge(sheet: &[u8], hints: &[u16], source: u32, i: usize) -> Action
 
 // The action edge of the source in child row i, which is known to have no fault: its transition is not looked at.
 pub fn sound_action_edge(sheet: &[u8], hints: &[u16], source: u32, i: usize) -> ActionStep
-    requires { ⌜ Opens (now sheet) × (i < rowCount (now sheet) 1) × (faultIn (actionEdgeIn (gameOf (now sheet)) source (childRow (now sheet) i)) ≡ none) ⌝ }
+    requires { ⌜ Noted (now sheet) (now hints) × (i < rowCount (now sheet) 1) × (faultIn (actionEdgeIn (gameOf (now sheet)) source (childRow (now sheet) i)) ≡ none) ⌝ }
     ensures { λ r. ⌜ actionStep r ≡ actionEdgeIn (gameOf (now (sheet .entry))) source (childRow (now (sheet .entry)) i) ⌝ }
 {
     let Child::Of(edge) = graph_relations::children_of(sheet, source, i) else {
@@ -91,7 +92,7 @@ pub fn sound_action_edge(sheet: &[u8], hints: &[u16], source: u32, i: usize) -> 
 
 // The first fault among the action edges out of the source.
 pub fn outgoing_action_edges(sheet: &[u8], hints: &[u16], source: u32) -> Check
-    requires { ⌜ Opens (now sheet) ⌝ }
+    requires { ⌜ Noted (now sheet) (now hints) ⌝ }
     ensures { λ r. ⌜ faultOf r ≡ faultIn (outgoingActionEdges (gameOf (now (sheet .entry))) source) ⌝ }
 {
     let n = layout::row_count(sheet, 1);
@@ -113,7 +114,7 @@ pub fn linked_action_edges(
     source: u32,
     from: usize,
 ) -> Check
-    requires { ⌜ Opens (now sheet) × NextOf (now sheet) source 0 from × Chain (now sheet) (now links) source from ⌝ }
+    requires { ⌜ Noted (now sheet) (now hints) × NextOf (now sheet) source 0 from × Chain (now sheet) (now links) source from ⌝ }
     ensures { λ r. ⌜ faultOf r ≡ faultIn (outgoingActionEdges (gameOf (now (sheet .entry))) source) ⌝ }
 {
     let n = layout::row_count(sheet, 1);
@@ -130,7 +131,7 @@ pub fn linked_action_edges(
 
 // An entity as a chance outcome.
 fn checked_chance(sheet: &[u8], hints: &[u16], entity: u32) -> ChanceStep
-    requires { ⌜ Opens (now sheet) ⌝ }
+    requires { ⌜ Noted (now sheet) (now hints) ⌝ }
     ensures { λ r. ⌜ chanceStep r ≡ edgeOf (gameOf (now (sheet .entry))) (chanceOf (gameOf (now (sheet .entry)))) (λ c. c .target) entity ⌝ }
 {
     let ChanceFound::Found(outcome) = sheet::find_chance(sheet, hints, entity) else {
@@ -144,7 +145,7 @@ fn checked_chance(sheet: &[u8], hints: &[u16], entity: u32) -> ChanceStep
 
 // The chance outcome of the source in child row i.
 pub fn chance_outcome(sheet: &[u8], hints: &[u16], source: u32, i: usize) -> ChanceStep
-    requires { ⌜ Opens (now sheet) × (i < rowCount (now sheet) 1) ⌝ }
+    requires { ⌜ Noted (now sheet) (now hints) × (i < rowCount (now sheet) 1) ⌝ }
     ensures { λ r. ⌜ chanceStep r ≡ chanceOutcomeIn (gameOf (now (sheet .entry))) source (childRow (now (sheet .entry)) i) ⌝ }
 {
     let Child::Of(entity) = graph_relations::children_of(sheet, source, i) else {
@@ -155,7 +156,7 @@ pub fn chance_outcome(sheet: &[u8], hints: &[u16], source: u32, i: usize) -> Cha
 
 // The chance outcome of the source in child row i, which is known to have no fault.
 pub fn sound_chance_outcome(sheet: &[u8], hints: &[u16], source: u32, i: usize) -> ChanceStep
-    requires { ⌜ Opens (now sheet) × (i < rowCount (now sheet) 1) × (faultIn (chanceOutcomeIn (gameOf (now sheet)) source (childRow (now sheet) i)) ≡ none) ⌝ }
+    requires { ⌜ Noted (now sheet) (now hints) × (i < rowCount (now sheet) 1) × (faultIn (chanceOutcomeIn (gameOf (now sheet)) source (childRow (now sheet) i)) ≡ none) ⌝ }
     ensures { λ r. ⌜ chanceStep r ≡ chanceOutcomeIn (gameOf (now (sheet .entry))) source (childRow (now (sheet .entry)) i) ⌝ }
 {
     let Child::Of(entity) = graph_relations::children_of(sheet, source, i) else {
@@ -169,7 +170,7 @@ pub fn sound_chance_outcome(sheet: &[u8], hints: &[u16], source: u32, i: usize) 
 
 // The first fault among the chance outcomes of the source.
 pub fn outgoing_chance_outcomes(sheet: &[u8], hints: &[u16], source: u32) -> Check
-    requires { ⌜ Opens (now sheet) ⌝ }
+    requires { ⌜ Noted (now sheet) (now hints) ⌝ }
     ensures { λ r. ⌜ faultOf r ≡ faultIn (outgoingChanceOutcomes (gameOf (now (sheet .entry))) source) ⌝ }
 {
     let n = layout::row_count(sheet, 1);
@@ -191,7 +192,7 @@ pub fn linked_chance_outcomes(
     source: u32,
     from: usize,
 ) -> Check
-    requires { ⌜ Opens (now sheet) × NextOf (now sheet) source 0 from × Chain (now sheet) (now links) source from ⌝ }
+    requires { ⌜ Noted (now sheet) (now hints) × NextOf (now sheet) source 0 from × Chain (now sheet) (now links) source from ⌝ }
     ensures { λ r. ⌜ faultOf r ≡ faultIn (outgoingChanceOutcomes (gameOf (now (sheet .entry))) source) ⌝ }
 {
     let n = layout::row_count(sheet, 1);

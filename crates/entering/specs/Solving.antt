@@ -7,11 +7,12 @@ use lib.ListN.{length}
 use Rattle.number.specs.Number.{Number}
 use Rattle.answer.specs.Answer.{done, _>>=_}
 use Rattle.layout.specs.Layout.{rowCount, field}
+use Rattle.lookup.specs.Hints.{Noted}
 use Rattle.graph_relations.specs.RelationRows.{childRow}
 use Rattle.game.specs.declared.ActionEdge.{ActionEdge}
 use Rattle.game.specs.Game.{Chance}
 use Rattle.game.specs.Edges.{actionEdgeIn, chanceOutcomeIn, collectFrom}
-use Rattle.sheet.specs.Meaning.{gameOf, Opens}
+use Rattle.sheet.specs.Meaning.{gameOf}
 use Rattle.child_rows.specs.Links.{Linked}
 use Rattle.backward_induction.specs.declared.Method.{Method}
 use Rattle.backward_induction.specs.Solve.{taken, inRange, solve}
@@ -31,15 +32,16 @@ pub record NodeAt (s : List ℕ) (row e : ℕ) : Type 0 where
   pub here : row < rowCount s 0
   pub entity : field s 0 row 0 ≡ e
 
--- what a solve is lent: room for the links, and a memo
-pub record Lent (method : Method) (s links : List ℕ) (m : Rows) : Type 0 where
+-- what a solve is lent: room for hints and links, and a memo
+pub record Lent (method : Method) (s hints links : List ℕ) (m : Rows) : Type 0 where
+  pub hint-room : 0 < length hints
   pub node-room : 2 * rowCount s 0 ≤ length links
   pub child-room : 2 * rowCount s 1 ≤ length links
   pub memo : Memo method s m
 
 -- what a solve with so much depth left asks
-pub record Asks (method : Method) (s links : List ℕ) (m : Rows) (left : ℕ) : Type 0 where
-  pub opens : Opens s
+pub record Asks (method : Method) (s hints links : List ℕ) (m : Rows) (left : ℕ) : Type 0 where
+  pub noted : Noted s hints
   pub linked : Linked s links
   pub low : left ≤ 64
   pub memo : Memo method s m

@@ -9,6 +9,7 @@ ghost use Rattle.number.specs.Number.{finite};
 ghost use Rattle.number.specs.Meaning.{meaning};
 ghost use Rattle.rows.specs.Store.{rowsFrom};
 ghost use Rattle.layout.specs.Layout.{rowCount};
+ghost use Rattle.lookup.specs.Hints.{Noted};
 ghost use Rattle.game.specs.Game.{kindOf};
 ghost use Rattle.game.specs.declared.Kind.the-variants as Kinds;
 ghost use Rattle.sheet.specs.Meaning.{payoffRow, gameOf, Opens};
@@ -55,7 +56,7 @@ fn solve_terminal(
     entity: u32,
     row: usize,
 ) -> Visit
-    requires { ⌜ Opens (now sheet) × Within (rows (now heads) (now payoffs)) row ⌝ }
+    requires { ⌜ Noted (now sheet) (now hints) × Within (rows (now heads) (now payoffs)) row ⌝ }
     ensures { λ v. ⌜ ((method : Method) (f : Solver) → KeptAs method (now (sheet .entry)) (rows (now (heads .entry)) (now (payoffs .entry))) (rows (now (heads .exit)) (now (payoffs .exit))) row 1 (atKind method (gameOf (now (sheet .entry))) f entity Kinds.Terminal) v) ⌝ }
 {
     let TerminalFound::Found(t) = sheet::find_terminal(sheet, hints, entity) else {
@@ -77,7 +78,7 @@ fn enter_decision(
     row: usize,
     player: u32,
 ) -> Entered
-    requires { ⌜ Opens (now sheet) × Linked (now sheet) (now links) × NodeAt (now sheet) row entity × (kindOf (gameOf (now sheet)) entity ≡ some (Kinds.Decision player)) ⌝ }
+    requires { ⌜ Noted (now sheet) (now hints) × Linked (now sheet) (now links) × NodeAt (now sheet) row entity × (kindOf (gameOf (now sheet)) entity ≡ some (Kinds.Decision player)) ⌝ }
     ensures { λ r. ⌜ ((method : Method) (m : Rows) (left : ℕ) → 0 < left → EnteredAs method (now (sheet .entry)) m left entity r) ⌝ }
 {
     let from = child_rows::first_child(links, row);
@@ -96,7 +97,7 @@ fn enter_chance(
     entity: u32,
     row: usize,
 ) -> Entered
-    requires { ⌜ Opens (now sheet) × Linked (now sheet) (now links) × NodeAt (now sheet) row entity × (kindOf (gameOf (now sheet)) entity ≡ some Kinds.Chance) ⌝ }
+    requires { ⌜ Noted (now sheet) (now hints) × Linked (now sheet) (now links) × NodeAt (now sheet) row entity × (kindOf (gameOf (now sheet)) entity ≡ some Kinds.Chance) ⌝ }
     ensures { λ r. ⌜ ((m : Rows) (left : ℕ) → 0 < left → EnteredAs method (now (sheet .entry)) m left entity r) ⌝ }
 {
     if let Method::Plain = method {
@@ -120,7 +121,7 @@ pub fn enter(
     entity: u32,
     left: usize,
 ) -> Entered
-    requires { ⌜ Asks method (now sheet) (now links) (rows (now heads) (now payoffs)) left ⌝ }
+    requires { ⌜ Asks method (now sheet) (now hints) (now links) (rows (now heads) (now payoffs)) left ⌝ }
     ensures { λ r. ⌜ Enters method (now (sheet .entry)) (rows (now (heads .entry)) (now (payoffs .entry))) (rows (now (heads .exit)) (now (payoffs .exit))) left entity r ⌝ }
 {
     if left == 0 {

@@ -3,7 +3,7 @@ ghost use mathlib.Core.Path.{_≡_};
 ghost use mathlib.Core.Option.{none};
 ghost use Prim.Native.Nat.{_<_};
 ghost use Rattle.layout.specs.Layout.{layoutFault, rowCount};
-ghost use Rattle.opening.specs.SheetFault.{sheetFault};
+ghost use Rattle.lookup.specs.Hints.{Noted};
 ghost use Rattle.graph_relations.specs.Relations.{childIn, childOf, target, transitionTarget};
 ghost use Rattle.graph_relations.specs.RelationRows.{childRow, transitionRow, transitionRows};
 use layout::u32_field;
@@ -69,7 +69,7 @@ pub fn children_of(sheet: &[u8], parent: u32, i: usize) -> Child
 }
 
 pub fn transition_target(sheet: &[u8], hints: &[u16], entity: u32) -> Target
-    requires { ⌜ sheetFault (now sheet) ≡ none ⌝ }
+    requires { ⌜ Noted (now sheet) (now hints) ⌝ }
     ensures { λ r. ⌜ target r ≡ transitionTarget entity (transitionRows (now (sheet .entry))) ⌝ }
 {
     match lookup::find_row(sheet, hints, 4, entity) {

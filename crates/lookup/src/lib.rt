@@ -1,70 +1,102 @@
 // Lookups of a row by its entity in a sheet without fault, by a table of hints that is filled once.
-// Hints: in which row of section k an entity may stand, at 2 * entity + k / 4 modulo the table's length (a power of two or 0). A node
-// has rows in sections 0 and 5, and an edge in 2 or 3 and in 4, so that the rows of one entity have hints of their own.
-// A hint is looked at before it is used, so that a table may hold anything.
+// Hints: in which row of section k an entity may stand, at 4 * entity and the section's place modulo the table's length (a power of two).
+// A node has rows in sections 0 and 5 or 7, and an edge in 2 or 3 and in 4, so that the rows of one entity have hints of their own.
+// A hint is looked at before it is used, since rows of different entities may share one; where there is none there is no row.
 ghost use mathlib.Core.Path.{_≡_};
 ghost use mathlib.Core.Option.{none};
 ghost use mathlib.Core.Bool.{true};
+ghost use Prim.Native.Nat.{_<_};
+ghost use lib.ListN.{length};
 ghost use Rattle.rows.specs.Rows.{findRow, foundAt};
 ghost use Rattle.layout.specs.Layout.{width, section, rowCount, layoutFault};
-ghost use Rattle.opening.specs.SheetFault.{hasEntity, sheetFault};
+ghost use Rattle.opening.specs.SheetFault.{sheetFault};
+ghost use Rattle.lookup.specs.Hints.{lookedUp, placeOf, slotOf, hintOf, NotedTo, StillNoted, Noted};
 use layout::section_of;
 use layout::width_of;
 use rows::Found;
 
-// Where the hint of an entity stands in a table of n: within it, where n is not 0.
-fn slot(n: usize, k: usize, entity: u32) -> usize {
-    if n == 0 {
+// Which of an entity's hints is that of its row of section k.
+fn place(k: usize) -> usize
+    ensures { λ r. ⌜ (r ≡ placeOf k) × (r < 4) ⌝ }
+{
+    if k == 0 {
         return 0;
     }
-    (2 * entity as usize + k / 4) & (n - 1)
+    if k < 4 {
+        return 1;
+    }
+    if k == 4 {
+        return 2;
+    }
+    3
 }
 
-fn note(hints: &mut [u16], k: usize, entity: u32, row: u16) {
+// Where the hint of an entity stands in a table of n.
+fn slot(n: usize, k: usize, entity: u32) -> usize
+    requires { ⌜ 0 < n ⌝ }
+    ensures { λ r. ⌜ r ≡ slotOf n k entity ⌝ }
+{
+    (4 * entity as usize + place(k)) & (n - 1)
+}
+
+fn note(hints: &mut [u16], k: usize, entity: u32, hint: u16)
+    requires { ⌜ (0 < length (now hints)) × (0 < hint) ⌝ }
+    ensures { λ _. ⌜ (0 < hintOf (now (hints .exit)) k entity) × StillNoted (now (hints .entry)) (now (hints .exit)) ⌝ }
+{
     let at = slot(hints.len(), k, entity);
-    if at < hints.len() {
-        hints[at] = row;
-    }
+    hints[at] = hint;
 }
 
 fn note_section(sheet: &[u8], hints: &mut [u16], k: usize)
-    requires { ⌜ (layoutFault (now sheet) ≡ none) × (hasEntity k ≡ true) ⌝ }
+    requires { ⌜ (layoutFault (now sheet) ≡ none) × (lookedUp k ≡ true) × (0 < length (now hints)) ⌝ }
+    ensures { λ _. ⌜ NotedTo (now (sheet .entry)) k (rowCount (now (sheet .entry)) k) (now (hints .exit)) × StillNoted (now (hints .entry)) (now (hints .exit)) ⌝ }
 {
     let section = section_of(sheet, k);
     let w = width_of(sheet, k);
     let n = rows::count(section, w);
     let mut i = 0;
     while i < n {
-        note(hints, k, rows::field(section, w, i, 0), i as u16);
+        note(hints, k, rows::field(section, w, i, 0), i as u16 + 1);
         i += 1;
     }
 }
 
-// Notes the rows of the nodes, actions, chances, transitions and terminals.
-pub fn note_rows(sheet: &[u8], hints: &mut [u16])
-    requires { ⌜ sheetFault (now sheet) ≡ none ⌝ }
+// Whether the rows of section k are looked up by entity.
+fn is_looked_up(k: usize) -> bool
+    ensures { λ r. ⌜ r ≡ lookedUp k ⌝ }
 {
-    note_section(sheet, hints, 0);
-    note_section(sheet, hints, 2);
-    note_section(sheet, hints, 3);
-    note_section(sheet, hints, 4);
-    note_section(sheet, hints, 5);
+    opening::has_entity(k) && k != 1
 }
 
-// The row of section k that names the entity: the hint's, or by a search.
+// Notes each row that may be looked up.
+pub fn note_rows(sheet: &[u8], hints: &mut [u16])
+    requires { ⌜ (sheetFault (now sheet) ≡ none) × (0 < length (now hints)) ⌝ }
+    ensures { λ _. ⌜ Noted (now (sheet .entry)) (now (hints .exit)) ⌝ }
+{
+    let mut k = 0;
+    while k < 8 {
+        if !is_looked_up(k) {
+            k += 1;
+            continue;
+        }
+        note_section(sheet, hints, k);
+        k += 1;
+    }
+}
+
+// The row of section k that names the entity: none without a hint, the hint's, or by a search.
 pub fn find_row(sheet: &[u8], hints: &[u16], k: usize, entity: u32) -> Found
-    requires { ⌜ (sheetFault (now sheet) ≡ none) × (hasEntity k ≡ true) ⌝ }
+    requires { ⌜ Noted (now sheet) (now hints) × (lookedUp k ≡ true) ⌝ }
     ensures { λ r. ⌜ foundAt r ≡ findRow (width (now (sheet .entry)) k) (section (now (sheet .entry)) k) (rowCount (now (sheet .entry)) k) entity ⌝ }
 {
+    let hint = hints[slot(hints.len(), k, entity)] as u32;
+    if hint == 0 {
+        return Found::Nothing;
+    }
     let section = section_of(sheet, k);
     let w = width_of(sheet, k);
-    let at = slot(hints.len(), k, entity);
-    if hints.len() <= at {
-        return rows::find_distinct(section, w, entity);
-    }
-    let i = hints[at] as u32;
-    if rows::names(section, w, i, entity) {
-        return Found::At(i as usize);
+    if rows::names(section, w, hint - 1, entity) {
+        return Found::At(hint as usize - 1);
     }
     rows::find_distinct(section, w, entity)
 }

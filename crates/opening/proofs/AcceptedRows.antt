@@ -14,7 +14,7 @@ use Rattle.layout.specs.Layout.{width, layoutFault, section, rowCount, field}
 use Rattle.opening.specs.Faults.{fieldsFault}
 use Rattle.opening.specs.SheetFault.{hasEntity, rowFault, totalFault, rowsFault, sheetFault, RowOf}
 
-left-true : (a b : Bool) → a && b ≡ true → a ≡ true
+pub left-true : (a b : Bool) → a && b ≡ true → a ≡ true
 left-true true b e = refl
 left-true false b e = absurd (false≢true e)
 

@@ -188,7 +188,7 @@ fn check_fields(sheet: &[u8], k: usize, n: usize) -> Check
     Check::Passed
 }
 
-fn has_entity(k: usize) -> bool
+pub fn has_entity(k: usize) -> bool
     ensures { λ r. ⌜ r ≡ hasEntity k ⌝ }
 {
     if 8 <= k {

@@ -4,10 +4,11 @@ ghost use mathlib.Core.List.{List, []};
 ghost use mathlib.Core.Option.{some};
 ghost use Prim.Native.Nat.{ℕ, _+_, _≤_, _<_, min, max};
 ghost use lib.ListN.{length, getD};
+ghost use Rattle.lookup.specs.Hints.{Noted};
 ghost use Rattle.answer.specs.Refusals.{refusal};
 ghost use Rattle.game.specs.declared.Kind.{Kind};
 ghost use Rattle.game.specs.Game.{kindOf};
-ghost use Rattle.sheet.specs.Meaning.{gameOf, Opens};
+ghost use Rattle.sheet.specs.Meaning.{gameOf};
 ghost use Rattle.path_counts.specs.Counts.{cap, height, pathCount, wordCount, Memo, known, RowOf, Visits, Continues, Enters, Capped, added, keptIn, keptAs, sized, sizeFrom};
 use answer::Check;
 use answer::Refusal;
@@ -79,7 +80,7 @@ fn count_terminal(
     entity: u32,
     row: usize,
 ) -> Visit
-    requires { ⌜ Opens (now sheet) × Memo (now sheet) (now memo) × RowOf (now sheet) entity row × (kindOf (gameOf (now sheet)) entity ≡ some Kind.Terminal) ⌝ }
+    requires { ⌜ Noted (now sheet) (now hints) × Memo (now sheet) (now memo) × RowOf (now sheet) entity row × (kindOf (gameOf (now sheet)) entity ≡ some Kind.Terminal) ⌝ }
     ensures { λ v. ⌜ ((left : ℕ) → 0 < left → Visits (now (sheet .entry)) (now (memo .exit)) left entity v) ⌝ }
 {
     let TerminalFound::Found(t) = sheet::find_terminal(sheet, hints, entity) else {
@@ -92,7 +93,7 @@ fn count_terminal(
 
 // A node with edges: the faults among them.
 fn enter_inner(sheet: &[u8], hints: &[u16], entity: u32, row: usize) -> Entered
-    requires { ⌜ Opens (now sheet) × RowOf (now sheet) entity row × Continues (gameOf (now sheet)) entity ⌝ }
+    requires { ⌜ Noted (now sheet) (now hints) × RowOf (now sheet) entity row × Continues (gameOf (now sheet)) entity ⌝ }
     ensures { λ r. ⌜ ((m : List (List ℕ)) (left : ℕ) → Memo (now (sheet .entry)) m → 0 < left → Enters (now (sheet .entry)) m left entity r) ⌝ }
 {
     match edges::outgoing_action_edges(sheet, hints, entity) {
@@ -103,7 +104,7 @@ fn enter_inner(sheet: &[u8], hints: &[u16], entity: u32, row: usize) -> Entered
 
 // Enters a node with so much depth left: 24, 11, counts that are known, then by kind as far as no target is visited.
 fn enter(sheet: &[u8], hints: &[u16], memo: &mut [[usize; 3]], entity: u32, left: usize) -> Entered
-    requires { ⌜ Opens (now sheet) × Memo (now sheet) (now memo) ⌝ }
+    requires { ⌜ Noted (now sheet) (now hints) × Memo (now sheet) (now memo) ⌝ }
     ensures { λ r. ⌜ Enters (now (sheet .entry)) (now (memo .exit)) left entity r ⌝ }
 {
     if left == 0 {
@@ -183,7 +184,7 @@ fn count_paths(
     entity: u32,
     left: usize,
 ) -> Visit
-    requires { ⌜ Opens (now sheet) × (left ≤ 64) × Memo (now sheet) (now memo) ⌝ }
+    requires { ⌜ Noted (now sheet) (now hints) × (left ≤ 64) × Memo (now sheet) (now memo) ⌝ }
     ensures { λ v. ⌜ Visits (now (sheet .entry)) (now (memo .exit)) left entity v ⌝ }
 {
     let entered = enter(sheet, hints, memo, entity, left);
@@ -217,7 +218,7 @@ fn count_paths(
 
 // How many u64s the paths from a node are, or the first fault.
 pub fn word_count(sheet: &[u8], hints: &[u16], start: u32, depth: usize) -> Size
-    requires { ⌜ Opens (now sheet) × (depth ≤ 64) ⌝ }
+    requires { ⌜ Noted (now sheet) (now hints) × (depth ≤ 64) ⌝ }
     ensures { λ r. ⌜ sized r ≡ sizeFrom (gameOf (now (sheet .entry))) depth start ⌝ }
 {
     let mut memo = [[0usize; 3]; 1024];

@@ -12,6 +12,7 @@ ghost use Rattle.answer.specs.Listing.{outcome, leaves};
 ghost use Rattle.rows.specs.Store.{rowsFrom};
 ghost use Rattle.text.specs.Written.{written};
 ghost use Rattle.layout.specs.Layout.{rowCount};
+ghost use Rattle.lookup.specs.Hints.{Noted};
 ghost use Rattle.sheet.specs.Meaning.{payoffRow, gameOf, Opens};
 ghost use Rattle.sheet.specs.Found.{InSheet};
 ghost use Rattle.path_counts.specs.Paths.{paths, recordOf};
@@ -82,7 +83,7 @@ fn write_path(
 
 // The terminal that a node is, where it is one.
 fn terminal_at(sheet: &[u8], hints: &[u16], entity: u32) -> TerminalFound
-    requires { ⌜ Opens (now sheet) ⌝ }
+    requires { ⌜ Noted (now sheet) (now hints) ⌝ }
     ensures { λ r. ⌜ EndsAt (now (sheet .entry)) entity r × InSheet (now (sheet .entry)) r ⌝ }
 {
     let NodeFound::Found(node) = sheet::find_node(sheet, hints, entity) else {
@@ -107,7 +108,7 @@ fn write_paths(
     left: usize,
     at: usize,
 ) -> usize
-    requires { ⌜ Opens (now sheet) × (faultIn (paths (gameOf (now sheet)) left entity) ≡ none) × (count + left ≤ length (now labels)) × (at + length (wordsFrom (gameOf (now sheet)) left entity (take count (now labels))) ≤ length (now out)) ⌝ }
+    requires { ⌜ Noted (now sheet) (now hints) × (faultIn (paths (gameOf (now sheet)) left entity) ≡ none) × (count + left ≤ length (now labels)) × (at + length (wordsFrom (gameOf (now sheet)) left entity (take count (now labels))) ≤ length (now out)) ⌝ }
     ensures { λ r. ⌜ (r ≡ at + length (wordsFrom (gameOf (now (sheet .entry))) left entity (take count (now (labels .entry))))) × (now (out .exit) ≡ written (now (out .entry)) at (wordsFrom (gameOf (now (sheet .entry))) left entity (take count (now (labels .entry))))) × (take count (now (labels .exit)) ≡ take count (now (labels .entry))) ⌝ }
 {
     if let TerminalFound::Found(t) = terminal_at(sheet, hints, entity) {

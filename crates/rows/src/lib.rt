@@ -48,46 +48,15 @@ pub fn find_row(rows: &[u8], w: usize, n: usize, entity: u32) -> Found
     Found::Nothing
 }
 
-fn distance(a: u32, b: u32) -> u32 {
-    if a < b {
-        return b - a;
-    }
-    a - b
-}
-
-// Whether there is a row i; it takes no division.
-fn has_row(rows: &[u8], w: usize, i: u32) -> bool
-    requires { ⌜ (4 ≤ w) × (w ≤ 32) ⌝ }
-    ensures { λ r. ⌜ (r ≡ true → i < rowsIn w (now (rows .entry))) ⌝ }
-{
-    (i as usize + 1) * w <= rows.len()
-}
-
-// Whether row i is there and names the entity.
+// Whether row i is there and names the entity; it takes no division.
 pub fn names(rows: &[u8], w: usize, i: u32, entity: u32) -> bool
     requires { ⌜ (4 ≤ w) × (w ≤ 32) ⌝ }
     ensures { λ r. ⌜ (r ≡ true → (i < rowsIn w (now (rows .entry))) × (entityAt w (now (rows .entry)) i ≡ entity)) ⌝ }
 {
-    if !has_row(rows, w, i) {
+    if rows.len() < (i as usize + 1) * w {
         return false;
     }
     field(rows, w, i as usize, 0) == entity
-}
-
-// A row to look at first: the entity's, where the rows are spaced as rows 0 and 1 are.
-fn evenly_spaced(rows: &[u8], w: usize, entity: u32) -> u32
-    requires { ⌜ (4 ≤ w) × (w ≤ 32) ⌝ }
-{
-    if !has_row(rows, w, 1) {
-        return 0;
-    }
-    let first = field(rows, w, 0, 0);
-    let spacing = distance(first, field(rows, w, 1, 0));
-    let gap = distance(first, entity);
-    if spacing <= 1 {
-        return gap;
-    }
-    gap / spacing
 }
 
 // Row mid where it is not past the entity, and else row i.
@@ -108,7 +77,7 @@ fn not_past(rows: &[u8], w: usize, i: usize, mid: usize, entity: u32, rising: bo
     i
 }
 
-// A row to look at next: the entity's, where the rows rise or fall.
+// A row to look at first: the entity's, where the rows rise or fall.
 fn halved(rows: &[u8], w: usize, n: usize, entity: u32) -> usize
     requires { ⌜ (0 < n) × (n ≤ rowsIn w (now rows)) × (4 ≤ w) ⌝ }
     ensures { λ r. ⌜ r < n ⌝ }
@@ -124,11 +93,12 @@ fn halved(rows: &[u8], w: usize, n: usize, entity: u32) -> usize
     i
 }
 
-// The one of n rows that names the entity, where no two name the same. Rows in no order are searched one by one.
-fn find_halving(rows: &[u8], w: usize, n: usize, entity: u32) -> Found
-    requires { ⌜ (n ≤ rowsIn w (now rows)) × (4 ≤ w) × Distinct w (now rows) n ⌝ }
-    ensures { λ r. ⌜ foundAt r ≡ findRow w (now (rows .entry)) n entity ⌝ }
+// The row that names the entity, where no two name the same. Rows in no order are searched one by one.
+pub fn find_distinct(rows: &[u8], w: usize, entity: u32) -> Found
+    requires { ⌜ (4 ≤ w) × Distinct w (now rows) (rowsIn w (now rows)) ⌝ }
+    ensures { λ r. ⌜ foundAt r ≡ findRow w (now (rows .entry)) (rowsIn w (now (rows .entry))) entity ⌝ }
 {
+    let n = count(rows, w);
     if n == 0 {
         return Found::Nothing;
     }
@@ -137,16 +107,4 @@ fn find_halving(rows: &[u8], w: usize, n: usize, entity: u32) -> Found
         return Found::At(j);
     }
     find_row(rows, w, n, entity)
-}
-
-// The row that names the entity, where no two name the same.
-pub fn find_distinct(rows: &[u8], w: usize, entity: u32) -> Found
-    requires { ⌜ (4 ≤ w) × (w ≤ 32) × Distinct w (now rows) (rowsIn w (now rows)) ⌝ }
-    ensures { λ r. ⌜ foundAt r ≡ findRow w (now (rows .entry)) (rowsIn w (now (rows .entry))) entity ⌝ }
-{
-    let i = evenly_spaced(rows, w, entity);
-    if names(rows, w, i, entity) {
-        return Found::At(i as usize);
-    }
-    find_halving(rows, w, count(rows, w), entity)
 }

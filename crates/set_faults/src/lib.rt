@@ -4,6 +4,7 @@ ghost use mathlib.Core.Option.{some};
 ghost use Prim.Native.Nat.{_<_};
 ghost use Rattle.answer.specs.Fault.{faultOf};
 ghost use Rattle.layout.specs.Layout.{rowCount};
+ghost use Rattle.lookup.specs.Hints.{Noted};
 ghost use Rattle.game.specs.Game.{kindOf};
 ghost use Rattle.sheet.specs.Meaning.{setRow, gameOf, Opens};
 ghost use Rattle.set_faults.specs.Faults.{labelsOf, sameLabels, memberFault, agreementFault, firstRow, rowFault, setFault};
@@ -59,7 +60,7 @@ fn member_at(sheet: &[u8], id: u64, i: usize) -> Word
 
 // The label number of child row i as an action edge of the node.
 fn label_at(sheet: &[u8], hints: &[u16], node: u32, i: usize) -> Word
-    requires { ⌜ Opens (now sheet) × (i < rowCount (now sheet) 1) ⌝ }
+    requires { ⌜ Noted (now sheet) (now hints) × (i < rowCount (now sheet) 1) ⌝ }
     ensures { λ r. ⌜ wordIn r ≡ wordAt (now (sheet .entry)) (Listed.Labels node) i ⌝ }
 {
     let Child::Of(edge) = graph_relations::children_of(sheet, node, i) else {
@@ -73,7 +74,7 @@ fn label_at(sheet: &[u8], hints: &[u16], node: u32, i: usize) -> Word
 
 // What row i of the walk gives to the list.
 fn word_at(sheet: &[u8], hints: &[u16], list: Listed, i: usize) -> Word
-    requires { ⌜ Opens (now sheet) × (i < rowTotal (now sheet) list) ⌝ }
+    requires { ⌜ Noted (now sheet) (now hints) × (i < rowTotal (now sheet) list) ⌝ }
     ensures { λ r. ⌜ wordIn r ≡ wordAt (now (sheet .entry)) list i ⌝ }
 {
     match list {
@@ -84,7 +85,7 @@ fn word_at(sheet: &[u8], hints: &[u16], list: Listed, i: usize) -> Word
 
 // The next word of the list from row i on.
 pub fn next_word(sheet: &[u8], hints: &[u16], list: Listed, i: usize) -> Next
-    requires { ⌜ Opens (now sheet) ⌝ }
+    requires { ⌜ Noted (now sheet) (now hints) ⌝ }
     ensures { λ r. ⌜ (ahead (now (sheet .entry)) list r ≡ wordsFrom (now (sheet .entry)) list i) × Onward (now (sheet .entry)) list i r ⌝ }
 {
     let n = row_total(sheet, list);
@@ -109,7 +110,7 @@ fn is_end(next: Next) -> bool
 
 // Whether the action edges of two nodes bear the same labels.
 fn same_labels(sheet: &[u8], hints: &[u16], a: u32, b: u32) -> bool
-    requires { ⌜ Opens (now sheet) ⌝ }
+    requires { ⌜ Noted (now sheet) (now hints) ⌝ }
     ensures { λ r. ⌜ r ≡ sameLabels (gameOf (now (sheet .entry))) (labelsOf (gameOf (now (sheet .entry))) a) (labelsOf (gameOf (now (sheet .entry))) b) ⌝ }
 {
     let mut i = 0;
@@ -139,7 +140,7 @@ fn same_labels(sheet: &[u8], hints: &[u16], a: u32, b: u32) -> bool
 
 // Refusals 11, 21 and 22 of a set row.
 fn check_member(sheet: &[u8], hints: &[u16], row: InformationSet) -> Check
-    requires { ⌜ Opens (now sheet) ⌝ }
+    requires { ⌜ Noted (now sheet) (now hints) ⌝ }
     ensures { λ r. ⌜ faultOf r ≡ memberFault (gameOf (now (sheet .entry))) row (kindOf (gameOf (now (sheet .entry))) (row .entity)) ⌝ }
 {
     let NodeFound::Found(node) = sheet::find_node(sheet, hints, row.entity) else {
@@ -180,7 +181,7 @@ fn first_row(sheet: &[u8], i: usize) -> InformationSet
 
 // Refusal 23 of a set row, against the first row of its set.
 fn check_agreement(sheet: &[u8], hints: &[u16], row: InformationSet, first: InformationSet) -> Check
-    requires { ⌜ Opens (now sheet) ⌝ }
+    requires { ⌜ Noted (now sheet) (now hints) ⌝ }
     ensures { λ r. ⌜ faultOf r ≡ agreementFault (gameOf (now (sheet .entry))) row (some first) ⌝ }
 {
     if first.player != row.player {
@@ -197,7 +198,7 @@ fn check_agreement(sheet: &[u8], hints: &[u16], row: InformationSet, first: Info
 
 // The first refusal of set row i.
 fn check_row(sheet: &[u8], hints: &[u16], i: usize) -> Check
-    requires { ⌜ Opens (now sheet) × (i < rowCount (now sheet) 7) ⌝ }
+    requires { ⌜ Noted (now sheet) (now hints) × (i < rowCount (now sheet) 7) ⌝ }
     ensures { λ r. ⌜ faultOf r ≡ rowFault (gameOf (now (sheet .entry))) (setRow (now (sheet .entry)) i) ⌝ }
 {
     let row = sheet::set_row(sheet, i);
@@ -214,7 +215,7 @@ fn check_row(sheet: &[u8], hints: &[u16], i: usize) -> Check
 
 // The first refusal of the set rows.
 pub fn check_rows(sheet: &[u8], hints: &[u16]) -> Check
-    requires { ⌜ Opens (now sheet) ⌝ }
+    requires { ⌜ Noted (now sheet) (now hints) ⌝ }
     ensures { λ r. ⌜ faultOf r ≡ setFault (gameOf (now (sheet .entry))) ⌝ }
 {
     let n = layout::row_count(sheet, 7);

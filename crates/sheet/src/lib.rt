@@ -1,9 +1,9 @@
 // A sheet: opening one, and looking up the rows of one that opened.
 ghost use mathlib.Core.Path.{_≡_};
-ghost use mathlib.Core.Option.{none};
 ghost use Prim.Native.Nat.{_<_};
 ghost use Rattle.number.specs.Answers.{utility};
 ghost use Rattle.layout.specs.Layout.{rowCount};
+ghost use Rattle.lookup.specs.Hints.{Noted};
 ghost use Rattle.game.specs.Game.{nodeOf, actionOf, chanceOf, terminalOf, setOf, labelText, sameLabel, chanceIn};
 ghost use Rattle.sheet.specs.Meaning.{kindFrom, nodeRow, actionRow, chanceRow, payoffRow, terminalRow, setRow, gameOf, opening, opened, Opens};
 ghost use Rattle.sheet.specs.Found.{nodeFound, actionFound, chanceFound, setFound, terminalIn, terminalFound, InSheet};
@@ -82,7 +82,7 @@ pub fn node_row(sheet: &[u8], i: usize) -> Node
 }
 
 pub fn find_node(sheet: &[u8], hints: &[u16], entity: u32) -> NodeFound
-    requires { ⌜ Opens (now sheet) ⌝ }
+    requires { ⌜ Noted (now sheet) (now hints) ⌝ }
     ensures { λ r. ⌜ nodeFound r ≡ nodeOf (gameOf (now (sheet .entry))) entity ⌝ }
 {
     match lookup::find_row(sheet, hints, 0, entity) {
@@ -104,7 +104,7 @@ fn action_row(sheet: &[u8], i: usize) -> ActionEdge
 }
 
 pub fn find_action(sheet: &[u8], hints: &[u16], entity: u32) -> ActionFound
-    requires { ⌜ Opens (now sheet) ⌝ }
+    requires { ⌜ Noted (now sheet) (now hints) ⌝ }
     ensures { λ r. ⌜ actionFound r ≡ actionOf (gameOf (now (sheet .entry))) entity ⌝ }
 {
     match lookup::find_row(sheet, hints, 2, entity) {
@@ -127,7 +127,7 @@ fn chance_row(sheet: &[u8], i: usize) -> ChanceOutcome
 }
 
 pub fn find_chance(sheet: &[u8], hints: &[u16], entity: u32) -> ChanceFound
-    requires { ⌜ Opens (now sheet) ⌝ }
+    requires { ⌜ Noted (now sheet) (now hints) ⌝ }
     ensures { λ r. ⌜ chanceFound r ≡ chanceOf (gameOf (now (sheet .entry))) entity ⌝ }
 {
     match lookup::find_row(sheet, hints, 3, entity) {
@@ -149,7 +149,7 @@ fn terminal_row(sheet: &[u8], i: usize) -> Terminal
 }
 
 pub fn find_terminal(sheet: &[u8], hints: &[u16], entity: u32) -> TerminalFound
-    requires { ⌜ Opens (now sheet) ⌝ }
+    requires { ⌜ Noted (now sheet) (now hints) ⌝ }
     ensures { λ r. ⌜ (terminalFound (now (sheet .entry)) r ≡ terminalOf (gameOf (now (sheet .entry))) entity) × InSheet (now (sheet .entry)) r ⌝ }
 {
     match lookup::find_row(sheet, hints, 5, entity) {
@@ -179,7 +179,7 @@ pub fn set_row(sheet: &[u8], i: usize) -> InformationSet
 }
 
 pub fn find_set(sheet: &[u8], hints: &[u16], entity: u32) -> SetFound
-    requires { ⌜ Opens (now sheet) ⌝ }
+    requires { ⌜ Noted (now sheet) (now hints) ⌝ }
     ensures { λ r. ⌜ setFound r ≡ setOf (gameOf (now (sheet .entry))) entity ⌝ }
 {
     match lookup::find_row(sheet, hints, 7, entity) {

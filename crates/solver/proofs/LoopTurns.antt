@@ -56,14 +56,14 @@ not-first (inl e) = absurd (omega arith)
 not-first (inr e) = absurd (omega arith)
 
 -- ---- a decision
-module _ {method : Method} {s links : List ℕ} {m₀ m : Rows} {row e p left n i deepest : ℕ} {best : Best} (walk : Walk method s links m₀ m row e left n i deepest) (deciding : Deciding method s m e p i deepest best) where
+module _ {method : Method} {s hints links : List ℕ} {m₀ m : Rows} {row e p left n i deepest : ℕ} {best : Best} (walk : Walk method s hints links m₀ m row e left n i deepest) (deciding : Deciding method s m e p i deepest best) where
   -- the end
   module _ (end : n ≤ i) where
     replied : (k : ℕ) → deepest ≤ k → solve method (gameOf s) (suc k) e ≡ decided e (leadIn method s best)
     replied = let q = walk .rows in Replying.all-replies deciding (omega arith)
 
     pub decision-room : ExtendableBest m deepest best
-    decision-room = Replying.best-extends (walk .opens) (walk .memo) e deepest best (deciding .kept) (replied deepest (omega arith))
+    decision-room = Replying.best-extends (walk .noted .opens) (walk .memo) e deepest best (deciding .kept) (replied deepest (omega arith))
 
     pub decision-ends : (m′ : Rows) {v : Visit}
         → ((by : Method) (sheet : List ℕ) → Memo by sheet m → KeptIn sheet m best → KeptAs by sheet m m′ row (deepest + 1) (decided e (leadIn by sheet best)) v) → Visits method s m₀ m′ left e v
@@ -109,7 +109,7 @@ module _ {method : Method} {s links : List ℕ} {m₀ m : Rows} {row e p left n 
           reply-goes q d = Replying.replies-from (Replying.reply-goes deciding child-row edge (visited-as m m′ there visit) (subst (Replied method s p best x at) q replied-to) d) (next-child walk turn to)
 
 -- ---- a chance node
-module _ {method : Method} {s links : List ℕ} {m₀ m : Rows} {row e left n i deepest : ℕ} {w : Sums} (walk : Walk method s links m₀ m row e left n i deepest) (weighing : Weighing method s e i deepest w) where
+module _ {method : Method} {s hints links : List ℕ} {m₀ m : Rows} {row e left n i deepest : ℕ} {w : Sums} (walk : Walk method s hints links m₀ m row e left n i deepest) (weighing : Weighing method s e i deepest w) where
   -- the end
   pub chance-ends : n ≤ i → (m′ : Rows) {v : Visit} → ((by : Method) (sheet : List ℕ) (sums : Option (List Number)) → Holds w sums → KeptAs by sheet m m′ row (deepest + 1) (weighedUp e sums) v) → Visits method s m₀ m′ left e v
   chance-ends end m′ kept =

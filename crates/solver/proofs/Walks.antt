@@ -7,7 +7,8 @@ use lib.ListN.{length}
 use Rattle.answer.specs.declared.Refusal.{Refusal}
 use Rattle.answer.specs.Answer.{Answer, refused}
 use Rattle.layout.specs.Layout.{rowCount}
-use Rattle.sheet.specs.Meaning.{gameOf, Opens}
+use Rattle.lookup.specs.Hints.{Noted}
+use Rattle.sheet.specs.Meaning.{gameOf}
 use Rattle.child_rows.specs.Links.{NextOf, firstChild, nextChild, Linked, Chain}
 use Rattle.child_rows.proofs.LinkLaws.{chain-next, chain-goes, chain-room}
 use Rattle.backward_induction.specs.declared.Method.{Method}
@@ -27,8 +28,8 @@ pub record AsLong (m m′ : Rows) : Type 0 where
   pub payoffs : length (m′ .payoffs) ≡ length (m .payoffs)
 
 -- n child rows, those before i dealt with, and i one of e's or the end; m₀ is the memo where the walk began
-pub record Walk (method : Method) (s links : List ℕ) (m₀ m : Rows) (row e left n i deepest : ℕ) : Type 0 where
-  pub opens : Opens s
+pub record Walk (method : Method) (s hints links : List ℕ) (m₀ m : Rows) (row e left n i deepest : ℕ) : Type 0 where
+  pub noted : Noted s hints
   pub linked : Linked s links
   pub chain : Chain s links e i
   pub low : left ≤ 64
@@ -39,11 +40,11 @@ pub record Walk (method : Method) (s links : List ℕ) (m₀ m : Rows) (row e le
   pub extends : Extends m₀ m
   pub as-long : AsLong m₀ m
 
-pub walk-starts : {method : Method} {s links : List ℕ} (m : Rows) {row e left n i : ℕ} → Asks method s links m left → 0 < left → NodeAt s row e → n ≡ rowCount s 1 → i ≡ firstChild links row
-    → Walk method s links m m row e left n i 0
+pub walk-starts : {method : Method} {s hints links : List ℕ} (m : Rows) {row e left n i : ℕ} → Asks method s hints links m left → 0 < left → NodeAt s row e → n ≡ rowCount s 1 → i ≡ firstChild links row
+    → Walk method s hints links m m row e left n i 0
 walk-starts m asks some-depth node rows to =
     record {
-      opens = asks .opens;
+      noted = asks .noted;
       linked = asks .linked;
       chain = first-chain (asks .linked) node to;
       low = asks .low;
@@ -72,10 +73,10 @@ answer-row m m′ q visit =
     let there = visited-as m m′ q visit in
     record { within = there .memo .within _ (there .visited .filled .row); room = there .memo .right _ (there .visited .filled) .stands .sized .payoff-room }
 
-module _ {method : Method} {s links : List ℕ} {m₀ m : Rows} {row e left n i deepest : ℕ} (walk : Walk method s links m₀ m row e left n i deepest) where
+module _ {method : Method} {s hints links : List ℕ} {m₀ m : Rows} {row e left n i deepest : ℕ} (walk : Walk method s hints links m₀ m row e left n i deepest) where
   -- what a visit of a target asks
-  pub walk-asks : {less : ℕ} → less < left → Asks method s links m less
-  walk-asks h = let low = walk .low in record { opens = walk .opens; linked = walk .linked; low = omega arith; memo = walk .memo }
+  pub walk-asks : {less : ℕ} → less < left → Asks method s hints links m less
+  walk-asks h = let low = walk .low in record { noted = walk .noted; linked = walk .linked; low = omega arith; memo = walk .memo }
 
   -- the next row
   module _ (turn : i < n) where
@@ -95,10 +96,10 @@ module _ {method : Method} {s links : List ℕ} {m₀ m : Rows} {row e left n i 
       next-chain : Chain s links e j
       next-chain = rw to (chain-goes (walk .chain) in-rows)
 
-      pub walk-skips : Walk method s links m₀ m row e left n j deepest
+      pub walk-skips : Walk method s hints links m₀ m row e left n j deepest
       walk-skips =
           record {
-            opens = walk .opens;
+            noted = walk .noted;
             linked = walk .linked;
             chain = next-chain;
             low = walk .low;
@@ -111,12 +112,12 @@ module _ {method : Method} {s links : List ℕ} {m₀ m : Rows} {row e left n i 
           }
 
       pub walk-goes : (m′ : Rows) {less target at depth : ℕ} → less < left → Visits method s m m′ less target (Solved at) → AsLong m m′ → depth ≡ max deepest (height (entry m′ at))
-          → Walk method s links m₀ m′ row e left n j depth
+          → Walk method s hints links m₀ m′ row e left n j depth
       walk-goes m′ less visit long d =
           let near = visit .visited .near in
           let deep = walk .deep in
           record {
-            opens = walk .opens;
+            noted = walk .noted;
             linked = walk .linked;
             chain = next-chain;
             low = walk .low;

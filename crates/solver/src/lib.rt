@@ -51,7 +51,7 @@ fn solve_node(
     entity: u32,
     left: usize,
 ) -> Visit
-    requires { ⌜ Asks method (now sheet) (now links) (rows (now heads) (now payoffs)) left ⌝ }
+    requires { ⌜ Asks method (now sheet) (now hints) (now links) (rows (now heads) (now payoffs)) left ⌝ }
     ensures { λ v. ⌜ Visits method (now (sheet .entry)) (rows (now (heads .entry)) (now (payoffs .entry))) (rows (now (heads .exit)) (now (payoffs .exit))) left entity v ⌝ }
 {
     match entering::enter(sheet, hints, links, heads, payoffs, method, entity, left) {
@@ -95,7 +95,7 @@ fn solve_decision(
     player: u32,
     left: usize,
 ) -> Visit
-    requires { ⌜ Asks method (now sheet) (now links) (rows (now heads) (now payoffs)) (left + 1) × NodeAt (now sheet) row entity × Deciding method (now sheet) (rows (now heads) (now payoffs)) entity player 0 0 Bests.None ⌝ }
+    requires { ⌜ Asks method (now sheet) (now hints) (now links) (rows (now heads) (now payoffs)) (left + 1) × NodeAt (now sheet) row entity × Deciding method (now sheet) (rows (now heads) (now payoffs)) entity player 0 0 Bests.None ⌝ }
     ensures { λ v. ⌜ Visits method (now (sheet .entry)) (rows (now (heads .entry)) (now (payoffs .entry))) (rows (now (heads .exit)) (now (payoffs .exit))) (left + 1) entity v ⌝ }
 {
     let n = layout::row_count(sheet, 1);
@@ -135,7 +135,7 @@ fn solve_chance(
     row: usize,
     left: usize,
 ) -> Visit
-    requires { ⌜ Asks method (now sheet) (now links) (rows (now heads) (now payoffs)) (left + 1) × NodeAt (now sheet) row entity × ToWeigh method (now sheet) entity ⌝ }
+    requires { ⌜ Asks method (now sheet) (now hints) (now links) (rows (now heads) (now payoffs)) (left + 1) × NodeAt (now sheet) row entity × ToWeigh method (now sheet) entity ⌝ }
     ensures { λ v. ⌜ Visits method (now (sheet .entry)) (rows (now (heads .entry)) (now (payoffs .entry))) (rows (now (heads .exit)) (now (payoffs .exit))) (left + 1) entity v ⌝ }
 {
     let n = layout::row_count(sheet, 1);
@@ -228,7 +228,7 @@ fn solve_in(
     start: u32,
     depth: usize,
 ) -> Solved
-    requires { ⌜ Opens (now sheet) × (depth ≤ 64) × Lent method (now sheet) (now links) (rows (now heads) (now payoffs)) ⌝ }
+    requires { ⌜ Opens (now sheet) × (depth ≤ 64) × Lent method (now sheet) (now hints) (now links) (rows (now heads) (now payoffs)) ⌝ }
     ensures { λ r. ⌜ held r ≡ heldFor (solution-with method (gameOf (now (sheet .entry))) depth start) ⌝ }
 {
     lookup::note_rows(sheet, hints);

@@ -4,8 +4,9 @@ ghost use mathlib.Core.Option.{some};
 ghost use Prim.Native.Nat.{_≤_, _<_};
 ghost use Rattle.answer.specs.Fault.{faultOf, first};
 ghost use Rattle.layout.specs.Layout.{width, rowCount, field};
+ghost use Rattle.lookup.specs.Hints.{Noted};
 ghost use Rattle.graph_relations.specs.Relations.{childrenOf};
-ghost use Rattle.sheet.specs.Meaning.{gameOf, Opens};
+ghost use Rattle.sheet.specs.Meaning.{gameOf};
 ghost use Rattle.topology.specs.Topology.{missing, targetsFault, anyChance, kindFault, topology, checked};
 ghost use Rattle.topology.specs.Marks.{Visits, Enters};
 use answer::Check;
@@ -30,7 +31,7 @@ enum Entered {
 
 // Refusal 11 of an entity that is no node.
 fn check_node(sheet: &[u8], hints: &[u16], entity: u32) -> Check
-    requires { ⌜ Opens (now sheet) ⌝ }
+    requires { ⌜ Noted (now sheet) (now hints) ⌝ }
     ensures { λ r. ⌜ faultOf r ≡ missing (gameOf (now (sheet .entry))) entity ⌝ }
 {
     match sheet::find_node(sheet, hints, entity) {
@@ -41,7 +42,7 @@ fn check_node(sheet: &[u8], hints: &[u16], entity: u32) -> Check
 
 // Refusal 11 of the first row of section k whose target, at byte 8, is no node.
 fn check_targets_of(sheet: &[u8], hints: &[u16], k: usize) -> Check
-    requires { ⌜ Opens (now sheet) × (k < 10) × (12 ≤ width (now sheet) k) ⌝ }
+    requires { ⌜ Noted (now sheet) (now hints) × (k < 10) × (12 ≤ width (now sheet) k) ⌝ }
     ensures { λ r. ⌜ faultOf r ≡ first (rowCount (now (sheet .entry)) k) (λ i. missing (gameOf (now (sheet .entry))) (field (now (sheet .entry)) k i 8)) ⌝ }
 {
     let n = layout::row_count(sheet, k);
@@ -58,7 +59,7 @@ fn check_targets_of(sheet: &[u8], hints: &[u16], k: usize) -> Check
 
 // Refusal 11 of the root, then of the actions' targets, then of the chances'.
 fn check_targets(sheet: &[u8], hints: &[u16]) -> Check
-    requires { ⌜ Opens (now sheet) ⌝ }
+    requires { ⌜ Noted (now sheet) (now hints) ⌝ }
     ensures { λ r. ⌜ faultOf r ≡ targetsFault (gameOf (now (sheet .entry))) ⌝ }
 {
     let root = check_node(sheet, hints, layout::root_of(sheet));
@@ -74,7 +75,7 @@ fn check_targets(sheet: &[u8], hints: &[u16]) -> Check
 
 // Whether a child of the entity has a chance row.
 fn has_chance(sheet: &[u8], hints: &[u16], entity: u32) -> bool
-    requires { ⌜ Opens (now sheet) ⌝ }
+    requires { ⌜ Noted (now sheet) (now hints) ⌝ }
     ensures { λ r. ⌜ r ≡ anyChance (gameOf (now (sheet .entry))) (childrenOf entity (gameOf (now (sheet .entry)) .children)) ⌝ }
 {
     let n = layout::row_count(sheet, 1);
@@ -94,7 +95,7 @@ fn has_chance(sheet: &[u8], hints: &[u16], entity: u32) -> bool
 
 // Refusals 13 and 17 of a node of the kind.
 fn check_kind(sheet: &[u8], hints: &[u16], entity: u32, kind: Kind) -> Check
-    requires { ⌜ Opens (now sheet) ⌝ }
+    requires { ⌜ Noted (now sheet) (now hints) ⌝ }
     ensures { λ r. ⌜ faultOf r ≡ kindFault (gameOf (now (sheet .entry))) entity (some kind) ⌝ }
 {
     match kind {
@@ -114,7 +115,7 @@ fn check_kind(sheet: &[u8], hints: &[u16], entity: u32, kind: Kind) -> Check
 
 // Enters a node: 12 where no depth is left, 11, 12 where it is on the way, passed where it is visited, then the refusals of its kind.
 fn enter(sheet: &[u8], hints: &[u16], entity: u32, left: usize, marks: &[u8; 1024]) -> Entered
-    requires { ⌜ Opens (now sheet) ⌝ }
+    requires { ⌜ Noted (now sheet) (now hints) ⌝ }
     ensures { λ r. ⌜ Enters (now (sheet .entry)) left entity (now (marks .entry)) r ⌝ }
 {
     if left == 0 {
@@ -147,7 +148,7 @@ fn validate_reachable_node(
     left: usize,
     marks: &mut [u8; 1024],
 ) -> Check
-    requires { ⌜ Opens (now sheet) ⌝ }
+    requires { ⌜ Noted (now sheet) (now hints) ⌝ }
     ensures { λ r. ⌜ Visits (now (sheet .entry)) left entity (now (marks .entry)) r (now (marks .exit)) ⌝ }
 {
     let entered = enter(sheet, hints, entity, left, marks);

@@ -19,14 +19,14 @@ abbrev μ-loop : tie.MeasureT-loop
 μ-loop sheet hints links₀ n i₀ links i = i
 
 row-count-requires : tie.Need-row-count-requires Inv-loop μ-loop
-row-count-requires c κs = (lit< tt, opens-layout _ ((c .before .before .before) .pre .0))
+row-count-requires c κs = (lit< tt, opens-layout _ ((c .before .before .before) .pre .0 .opens))
 
 row-count-requires-2 : tie.Need-row-count-requires-2 Inv-loop μ-loop
-row-count-requires-2 c κs = (lit< tt, opens-layout _ ((c .before .before .before .before .before) .pre .0))
+row-count-requires-2 c κs = (lit< tt, opens-layout _ ((c .before .before .before .before .before) .pre .0 .opens))
 
 cast-unlink : tie.Need-cast-unlink Inv-loop μ-loop
 unfolding rowLimit
-cast-unlink c = let p = (c .before .before .before .before .before .before) .pre in omega (arith, (c .before .before) .row-count .ensures, rows-most _ (opens-layout _ (p .0)) 1 (lit< tt))
+cast-unlink c = let p = (c .before .before .before .before .before .before) .pre in omega (arith, (c .before .before) .row-count .ensures, rows-most _ (opens-layout _ (p .0 .opens)) 1 (lit< tt))
 
 unlink-requires : tie.Need-unlink-requires Inv-loop μ-loop
 unlink-requires c κs = let p = (c .before .before .before .before .before .before) .pre in omega (arith, p .1, (c) .row-count2 .ensures)

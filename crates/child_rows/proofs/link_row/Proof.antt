@@ -9,6 +9,7 @@ use Rattle.rows.specs.Rows.{findRow, foundAt}
 use Rattle.layout.specs.Layout.{width, section, rowCount, rowLimit}
 use Rattle.layout.proofs.LayoutLaws.{rows-most}
 use Rattle.opening.specs.SheetFault.{hasEntity}
+use Rattle.lookup.specs.Hints.{lookedUp}
 use Rattle.graph_relations.specs.RelationRows.{childRow}
 use Rattle.sheet.proofs.OpeningLaws.{opens-layout}
 use Rattle.child_rows.specs.Links.{parentIn}
@@ -28,9 +29,9 @@ there : (c : tie.After-r) → (let a = c .before .before .before .before .before
 unfolding rowLimit
 there c =
     let p = c .before .before .before .before .before .before .before .pre in
-    let h = rooms _ _ _ (p .0) (p .1) (p .2) _ (by-parent (c .before .before)) _ (c .r .given .1) in (
-      omega (arith, h, rows-most _ (opens-layout _ (p .0)) 0 (lit< tt)),
-      omega (arith, p .1, rows-most _ (opens-layout _ (p .0)) 1 (lit< tt)),
+    let h = rooms _ _ _ (p .0 .opens) (p .1) (p .2) _ (by-parent (c .before .before)) _ (c .r .given .1) in (
+      omega (arith, h, rows-most _ (opens-layout _ (p .0 .opens)) 0 (lit< tt)),
+      omega (arith, p .1, rows-most _ (opens-layout _ (p .0 .opens)) 1 (lit< tt)),
       h .1,
       h .2,
     )
@@ -40,7 +41,7 @@ unfolding width
 u32-field-requires c κs = let p = c .before .before .before .pre in search (needs, opens-layout)
 
 find-row-requires : tie.Need-find-row-requires
-unfolding hasEntity
+unfolding lookedUp hasEntity
 find-row-requires c κs = (c .before .before .before .before .pre .0, refl)
 
 enum-known-r : tie.Need-enum-known-r
@@ -50,7 +51,7 @@ enum-told : tie.Need-enum-told
 enum-told c = search needs
 
 returns : tie.Need-returns
-returns c = let p = c .before .before .before .before .before .before .before .pre in link-none _ _ _ (p .0) (p .1) (p .2) _ (by-parent (c .before .before)) (c .enum-told .given .1)
+returns c = let p = c .before .before .before .before .before .before .before .pre in link-none _ _ _ (p .0 .opens) (p .1) (p .2) _ (by-parent (c .before .before)) (c .enum-told .given .1)
 
 mul-links : tie.Need-mul-links
 mul-links c = omega (arith, there (c .before))
@@ -89,7 +90,7 @@ same-length : tie.Need-same-length
 same-length c = search needs
 
 returns-2 : tie.Need-returns-2
-returns-2 c = let p = c .before .before .before .before .before .before .before .before .before .pre in link-own _ _ _ (p .0) (p .1) (p .2) _ (by-parent (c .before .before .before .before)) _ (c .before .before .r .given .1)
+returns-2 c = let p = c .before .before .before .before .before .before .before .before .before .pre in link-own _ _ _ (p .0 .opens) (p .1) (p .2) _ (by-parent (c .before .before .before .before)) _ (c .before .before .r .given .1)
 
 pub link-row-spec : {M : Type 1} → statement M
 link-row-spec =

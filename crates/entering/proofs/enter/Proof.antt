@@ -6,6 +6,7 @@ use native.Mathlib.Omega.{arith}
 use borrow.Author.Needs.{needs}
 use lib.Dec.{lit<}
 use Rattle.opening.specs.SheetFault.{hasEntity}
+use Rattle.lookup.specs.Hints.{lookedUp}
 use Rattle.game.specs.declared.Kind.{Kind}
 use Rattle.game.specs.declared.Kind.the-variants as Kinds
 use Rattle.game.specs.declared.Node.{Node}
@@ -43,8 +44,8 @@ returns c =
     record { memo = start .pre .memo; extends = λ i h. h; entered = rw (c .refused .ensures) (no-depth (a .method) (a .sheet .now) (a .entity) (a .left) (c .before .if1 .taken)) }
 
 find-row-requires : tie.Need-find-row-requires
-unfolding hasEntity
-find-row-requires c κs = (c .before .before .before .before .pre .opens, refl)
+unfolding lookedUp hasEntity
+find-row-requires c κs = (c .before .before .before .before .pre .noted, refl)
 
 enum-known-row : tie.Need-enum-known-row
 enum-known-row c = search needs
@@ -78,25 +79,25 @@ returns-3 c =
     record { memo = start .pre .memo; extends = λ i h. h; entered = known-visited m (here (c .before .before .before .before)) (sym (c .before .is-known .ensures) ∙ c .if2 .taken) }
 
 node-row-requires : tie.Need-node-row-requires
-node-row-requires c κs = (c .before .before .before .before .before .before .before .before .before .before .before .pre .opens, here (c .before .before .before .before) .here)
+node-row-requires c κs = (c .before .before .before .before .before .before .before .before .before .before .before .pre .noted .opens, here (c .before .before .before .before) .here)
 
 enum-told-2 : tie.Need-enum-told-2
 enum-told-2 c = search needs
 
 solve-terminal-requires : tie.Need-solve-terminal-requires
-solve-terminal-requires c κs = let p = c .before .before .before .before .before .before .before .before .before .before .before .before .before .before .before .before .pre in (p .opens, p .memo .within _ (here (c .before .before .before .before .before .before .before .before .before) .here))
+solve-terminal-requires c κs = let p = c .before .before .before .before .before .before .before .before .before .before .before .before .before .before .before .before .pre in (p .noted, p .memo .within _ (here (c .before .before .before .before .before .before .before .before .before) .here))
 
 enum-known-kind : tie.Need-enum-known-kind
 enum-known-kind c = search needs
 
 enter-decision-requires : tie.Need-enter-decision-requires
-enter-decision-requires c κs = let p = c .before .before .before .before .before .before .before .before .before .before .before .before .before .before .before .pre in (p .opens, p .linked, here (c .before .before .before .before .before .before .before .before), kind-is (c .before .before .before) _ (c .before .kind .given .1))
+enter-decision-requires c κs = let p = c .before .before .before .before .before .before .before .before .before .before .before .before .before .before .before .pre in (p .noted, p .linked, here (c .before .before .before .before .before .before .before .before), kind-is (c .before .before .before) _ (c .before .kind .given .1))
 
 enum-told-3 : tie.Need-enum-told-3
 enum-told-3 c = search needs
 
 enter-chance-requires : tie.Need-enter-chance-requires
-enter-chance-requires c κs = let p = c .before .before .before .before .before .before .before .before .before .before .before .before .before .before .pre in (p .opens, p .linked, here (c .before .before .before .before .before .before .before), kind-is (c .before .before) _ (c .enum-told3 .given .1))
+enter-chance-requires c κs = let p = c .before .before .before .before .before .before .before .before .before .before .before .before .before .before .pre in (p .noted, p .linked, here (c .before .before .before .before .before .before .before), kind-is (c .before .before) _ (c .enum-told3 .given .1))
 
 same-length-2 : tie.Need-same-length-2
 same-length-2 c = search needs

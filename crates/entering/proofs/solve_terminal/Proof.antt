@@ -30,7 +30,7 @@ payoffs-from-requires c κs =
     let start = c .before .before .before .before .before .before in
     let after-find-terminal = c .before .before .before in
     let after-t = c .before in
-    let b = subst (InSheet (start .args .sheet .now)) (after-t .t .given .1) (after-find-terminal .find-terminal .ensures .1) in (start .pre .0, b .0, b .2)
+    let b = subst (InSheet (start .args .sheet .now)) (after-t .t .given .1) (after-find-terminal .find-terminal .ensures .1) in (start .pre .0 .opens, b .0, b .2)
 
 cast-t13 : tie.Need-cast-t13
 cast-t13 c =

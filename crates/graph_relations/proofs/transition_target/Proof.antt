@@ -3,6 +3,7 @@ use mathlib.Core.Path.{refl, sym, ap, _∙_}
 use mathlib.Core.Option.{some}
 use borrow.Author.Needs.{needs}
 use Rattle.opening.specs.SheetFault.{hasEntity}
+use Rattle.lookup.specs.Hints.{lookedUp}
 use Rattle.opening.proofs.AcceptedRows.{layout-ok}
 use Rattle.graph_relations.specs.declared.TransitionTo.{TransitionTo}
 use Rattle.lookup.proofs.Lookup.{row-found}
@@ -11,7 +12,7 @@ use Rattle.graph_relations.proofs.transition_target.Statement.{statemen
 use Rattle.graph_relations.proofs.transition_target.Tie as tie
 
 find-row-requires : tie.Need-find-row-requires
-unfolding hasEntity
+unfolding lookedUp hasEntity
 find-row-requires c κs = (search needs, refl)
 
 enum-known-i : tie.Need-enum-known-i

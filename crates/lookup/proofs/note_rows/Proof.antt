@@ -1,45 +1,93 @@
--- `note_rows` notes sections that name an entity in each row.
-use mathlib.Core.Path.{refl}
+-- `note_rows` notes the rows of each section that is looked up. The loop's invariant: those of the sections before k are noted.
+use Prim.Native.Nat.{ℕ, _-_, _≤_}
+use mathlib.Core.Path.{_≡_, refl, sym, _∙_}
+use mathlib.Core.Bool.{true, true≢false}
+use native.Mathlib.Omega.{arith}
+use borrow.Author.Count.{below-more}
 use borrow.Author.Needs.{needs}
-use Rattle.opening.specs.SheetFault.{hasEntity}
+use borrow.Author.Tests.{not-true, not-false}
+use lib.ListN.{length}
+use Rattle.layout.specs.Layout.{rowCount}
 use Rattle.opening.proofs.AcceptedRows.{layout-ok}
+use Rattle.lookup.specs.Hints.{lookedUp, NotedTo, NotedBelow}
 use Rattle.lookup.proofs.note_rows.Statement.{statement}
 use Rattle.lookup.proofs.note_rows.Tie as tie
 
-note-section-requires : tie.Need-note-section-requires
-unfolding hasEntity
-note-section-requires c κs = (layout-ok _ (c .before .before .before .pre), refl)
+abbrev Inv-loop : tie.InvT-loop
+Inv-loop sheet hints₀ k₀ hints k = (length hints ≡ length hints₀) × (k ≤ 8) × NotedBelow sheet k hints
 
-note-section-requires-2 : tie.Need-note-section-requires-2
-unfolding hasEntity
-note-section-requires-2 c κs = (layout-ok _ (c .before .before .before .before .before .before .before .pre), refl)
+abbrev μ-loop : tie.MeasureT-loop
+μ-loop sheet hints₀ k₀ hints k = 8 - k
 
-note-section-requires-3 : tie.Need-note-section-requires-3
-unfolding hasEntity
-note-section-requires-3 c κs = (layout-ok _ (c .before .before .before .before .before .before .before .before .before .before .before .pre), refl)
+loop-holds : tie.Need-loop-holds Inv-loop μ-loop
+loop-holds c = (refl, omega arith, λ j l. absurd (omega arith))
 
-note-section-requires-4 : tie.Need-note-section-requires-4
-unfolding hasEntity
-note-section-requires-4 c κs = (layout-ok _ (c .before .before .before .before .before .before .before .before .before .before .before .before .before .before .before .pre), refl)
+is-looked-up-requires : tie.Need-is-looked-up-requires Inv-loop μ-loop
+is-looked-up-requires c κs = search needs
 
-note-section-requires-5 : tie.Need-note-section-requires-5
-unfolding hasEntity
-note-section-requires-5 c κs = (layout-ok _ (c .before .before .before .before .before .before .before .before .before .before .before .before .before .before .before .before .before .before .before .pre), refl)
+add-k : tie.Need-add-k Inv-loop μ-loop
+add-k c = omega (arith, c .before .before .loop-test .taken)
 
-same-length : tie.Need-same-length
-same-length c = search needs
+loop-less : tie.Need-loop-less Inv-loop μ-loop
+loop-less c = omega (arith, c .before .before .loop-test .taken)
 
-returns : tie.Need-returns
-returns c = search needs
+loop-again : tie.Need-loop-again Inv-loop μ-loop
+loop-again c =
+    let l = c .before .before .before .loop in (
+      l .inv .0,
+      omega (arith, c .before .before .loop-test .taken),
+      below-more (λ (j : ℕ). lookedUp j ≡ true → NotedTo _ j (rowCount _ j) (l .hints)) (l .k) (l .inv .2)
+          (λ e. absurd (true≢false (sym e ∙ sym (c .before .is-looked-up .ensures) ∙ not-true _ (c .if1 .taken)))),
+    )
+
+note-section-requires : tie.Need-note-section-requires Inv-loop μ-loop
+note-section-requires c κs =
+    let p = c .before .before .before .before .before .before .before .pre in (
+      layout-ok _ (p .0),
+      sym (c .before .before .is-looked-up .ensures) ∙ not-false _ (c .before .if1 .left),
+      omega (arith, p .1, c .before .before .before .before .loop .inv .0),
+    )
+
+add-k-2 : tie.Need-add-k-2 Inv-loop μ-loop
+add-k-2 c = omega (arith, c .before .before .before .before .before .before .loop-test .taken)
+
+loop-less-2 : tie.Need-loop-less-2 Inv-loop μ-loop
+loop-less-2 c = omega (arith, c .before .before .before .before .before .before .loop-test .taken)
+
+loop-again-2 : tie.Need-loop-again-2 Inv-loop μ-loop
+loop-again-2 c =
+    let l = c .before .before .before .before .before .before .before .loop in
+    let noted = c .before .before .note-section in (
+      noted .kept .1 .0 ∙ l .inv .0,
+      omega (arith, c .before .before .before .before .before .before .loop-test .taken),
+      below-more (λ (j : ℕ). lookedUp j ≡ true → NotedTo _ j (rowCount _ j) (noted .last .1 .0)) (l .k)
+          (λ j h e i r. noted .ensures .1 _ _ (l .inv .2 j h e i r))
+          (λ e. noted .ensures .0),
+    )
+
+same-length : tie.Need-same-length Inv-loop μ-loop
+same-length c = c .before .loop .inv .0
+
+returns : tie.Need-returns Inv-loop μ-loop
+returns c =
+    let p = c .before .before .before .before .pre in
+    let l = c .before .loop in
+    record { opens = p .0; room = omega (arith, p .1, l .inv .0); rows = λ j h. l .inv .2 j (omega (arith, c .loop-test .left)) }
 
 pub note-rows-spec : {M : Type 1} → statement M
 note-rows-spec =
     tie.close
     (tie.spec
+    Inv-loop
+    μ-loop
+    loop-holds
+    is-looked-up-requires
+    add-k
+    loop-less
+    loop-again
     note-section-requires
-    note-section-requires-2
-    note-section-requires-3
-    note-section-requires-4
-    note-section-requires-5
+    add-k-2
+    loop-less-2
+    loop-again-2
     same-length
     returns)

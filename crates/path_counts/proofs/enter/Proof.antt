@@ -3,6 +3,7 @@ use mathlib.Core.Path.{refl, sym, _∙_}
 use native.Mathlib.Omega.{arith}
 use borrow.Author.Needs.{needs}
 use Rattle.opening.specs.SheetFault.{hasEntity}
+use Rattle.lookup.specs.Hints.{lookedUp}
 use Rattle.sheet.specs.Meaning.{gameOf}
 use Rattle.path_counts.specs.Paths.{paths}
 use Rattle.path_counts.proofs.PathLaws.{depth-spent, node-missing, decision-continues, chance-continues}
@@ -18,7 +19,7 @@ returns : tie.Need-returns
 returns c = refused-visits (c .before .before .before .before .pre .1) (c .refused .ensures) (rw (c .before .if1 .taken) (depth-spent _ _))
 
 find-row-requires : tie.Need-find-row-requires
-unfolding hasEntity
+unfolding lookedUp hasEntity
 find-row-requires c κs = (search needs, refl)
 
 enum-known-row : tie.Need-enum-known-row
@@ -46,7 +47,7 @@ returns-3 : tie.Need-returns-3
 returns-3 c = known-visits (c .before .before .before .before .before .before .before .before .before .before .pre .1) (found-row _ _ _ (c .before .before .before .before .before .before .find-row .ensures) _ (c .before .before .before .before .row .given .1)) _ (sym (c .if2 .taken) ∙ c .before .is-known .ensures)
 
 node-row-requires : tie.Need-node-row-requires
-node-row-requires c κs = (c .before .before .before .before .before .before .before .before .before .before .pre .0, found-row _ _ _ (c .before .before .before .before .before .before .find-row .ensures) _ (c .before .before .before .before .row .given .1) .row)
+node-row-requires c κs = (c .before .before .before .before .before .before .before .before .before .before .pre .0 .opens, found-row _ _ _ (c .before .before .before .before .before .before .find-row .ensures) _ (c .before .before .before .before .row .given .1) .row)
 
 enum-told-2 : tie.Need-enum-told-2
 enum-told-2 c = search needs

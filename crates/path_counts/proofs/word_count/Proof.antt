@@ -10,7 +10,7 @@ slice-aggregate-count-paths : tie.Need-slice-aggregate-count-paths
 slice-aggregate-count-paths c = search needs
 
 count-paths-requires : tie.Need-count-paths-requires
-count-paths-requires c κs = (c .before .before .before .pre .0, c .before .before .before .pre .1, empty-memo _ (c .before .before .before .pre .0))
+count-paths-requires c κs = (c .before .before .before .pre .0, c .before .before .before .pre .1, empty-memo _ (c .before .before .before .pre .0 .opens))
 
 enum-known-r : tie.Need-enum-known-r
 enum-known-r c = search needs
@@ -19,10 +19,10 @@ enum-known-row : tie.Need-enum-known-row
 enum-known-row c = search needs
 
 mul-counts : tie.Need-mul-counts
-mul-counts c = omega (arith, visited-counted (c .before .before .before .before .count-paths .ensures) _ (c .before .row .given .1) .own .row, few-nodes _ (c .before .before .before .before .before .before .before .before .pre .0))
+mul-counts c = omega (arith, visited-counted (c .before .before .before .before .count-paths .ensures) _ (c .before .row .given .1) .own .row, few-nodes _ (c .before .before .before .before .before .before .before .before .pre .0 .opens))
 
 array-copy-out-counts : tie.Need-array-copy-out-counts
-array-copy-out-counts c = omega (arith, visited-counted (c .before .before .before .before .count-paths .ensures) _ (c .before .row .given .1) .own .row, few-nodes _ (c .before .before .before .before .before .before .before .before .pre .0))
+array-copy-out-counts c = omega (arith, visited-counted (c .before .before .before .before .count-paths .ensures) _ (c .before .row .given .1) .own .row, few-nodes _ (c .before .before .before .before .before .before .before .before .pre .0 .opens))
 
 array-read-t14 : tie.Need-array-read-t14
 array-read-t14 c = search needs

@@ -53,7 +53,7 @@ write-path-requires : (t : ℕ) → lts.Need-write-path-requires (calls t) (entr
 write-path-requires t c κs =
     let found = rw (c .before .before .before .t .given .1) at (c .before .before .before .before .before .terminal-at .ensures) in
     let pre = c .before .before .before .before .before .before .before .before .before .before .pre .1 in
-    (pre .0, found .1, omega (arith, pre .2), rw (terminal-words _ _ _ _ _ (pre .1) (found .0)) at (pre .3))
+    (pre .0 .opens, found .1, omega (arith, pre .2), rw (terminal-words _ _ _ _ _ (pre .1) (found .0)) at (pre .3))
 
 same-length : (t : ℕ) → lts.Need-same-length (calls t) (entry t) reads.Post Inv-loop μ-loop
 same-length t c = c .before .before .write-path .kept .1 .0

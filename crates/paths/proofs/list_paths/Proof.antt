@@ -46,7 +46,7 @@ write-paths-requires : tie.Need-write-paths-requires
 write-paths-requires c κs =
     let start = c .before .before .before .before .before .before .before .before .before .before .before .before .before .before in
     let fit = all-fit _ _ _ (start .args .out .now) _ (c .before .before .before .before .before .before .before .word-count .ensures) _ (c .before .before .before .before .before .words .given .1) (c .before .before .before .if1 .left) (small start) in
-    (start .pre .0, fit .0, omega (arith, start .pre .1), fit .1)
+    (c .before .before .before .before .before .before .before .before .before .before .note-rows .ensures, fit .0, omega (arith, start .pre .1), fit .1)
 
 returns-2 : tie.Need-returns-2
 returns-2 c = fault-first _ _ _ _ _ (c .before .before .before .word-count .ensures) _ (c .before .r .given .1)

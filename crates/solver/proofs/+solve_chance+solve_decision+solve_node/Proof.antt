@@ -97,20 +97,20 @@ node-calls t = (enter-reads.Asked, enter-reads.Learnt, solve-decision-below t, s
 
 abbrev solve-chance-Inv-loop : solve-chance-lts.InvT-loop
 solve-chance-Inv-loop sheet hints links heads₀ payoffs₀ method entity row left n sums₀ deepest₀ i₀ heads payoffs sums deepest i =
-    Walk method sheet links (rows heads₀ payoffs₀) (rows heads payoffs) row entity (left + 1) n i deepest × Weighing method sheet entity i deepest sums
+    Walk method sheet hints links (rows heads₀ payoffs₀) (rows heads payoffs) row entity (left + 1) n i deepest × Weighing method sheet entity i deepest sums
 
 abbrev solve-chance-μ-loop : solve-chance-lts.MeasureT-loop
 solve-chance-μ-loop sheet hints links heads₀ payoffs₀ method entity row left n sums₀ deepest₀ i₀ heads payoffs sums deepest i = n - i
 
 abbrev solve-decision-Inv-loop : solve-decision-lts.InvT-loop
 solve-decision-Inv-loop sheet hints links heads₀ payoffs₀ method entity row player left n best₀ deepest₀ i₀ heads payoffs best deepest i =
-    Walk method sheet links (rows heads₀ payoffs₀) (rows heads payoffs) row entity (left + 1) n i deepest × Deciding method sheet (rows heads payoffs) entity player i deepest best
+    Walk method sheet hints links (rows heads₀ payoffs₀) (rows heads payoffs) row entity (left + 1) n i deepest × Deciding method sheet (rows heads payoffs) entity player i deepest best
 
 abbrev solve-decision-μ-loop : solve-decision-lts.MeasureT-loop
 solve-decision-μ-loop sheet hints links heads₀ payoffs₀ method entity row player left n best₀ deepest₀ i₀ heads payoffs best deepest i = n - i
 
 solve-chance-row-count-requires : (t : ℕ) → solve-chance-lts.Need-row-count-requires (chance-calls t) (solve-chance-at t) solve-chance.Post solve-chance-Inv-loop solve-chance-μ-loop
-solve-chance-row-count-requires t c κs = (lit< tt, opens-layout _ (c .before .before .before .pre .1 .0 .opens))
+solve-chance-row-count-requires t c κs = (lit< tt, opens-layout _ (c .before .before .before .pre .1 .0 .noted .opens))
 
 solve-chance-no-sums-requires : (t : ℕ) → solve-chance-lts.Need-no-sums-requires (chance-calls t) (solve-chance-at t) solve-chance.Post solve-chance-Inv-loop solve-chance-μ-loop
 solve-chance-no-sums-requires t c κs = search needs
@@ -132,7 +132,7 @@ solve-chance-sound-chance-outcome-requires : (t : ℕ) → solve-chance-lts.Need
 solve-chance-sound-chance-outcome-requires t c κs =
     let v = c .before .loop .inv in
     let h = c .loop-test .taken in
-    (v .0 .opens, in-rows (v .0) h, sound-outcome (v .0) (v .1) h)
+    (v .0 .noted, in-rows (v .0) h, sound-outcome (v .0) (v .1) h)
 
 solve-chance-next-child-requires : (t : ℕ) → solve-chance-lts.Need-next-child-requires (chance-calls t) (solve-chance-at t) solve-chance.Post solve-chance-Inv-loop solve-chance-μ-loop
 solve-chance-next-child-requires t c κs = next-room (c .before .before .loop .inv .0) (c .before .loop-test .taken)
@@ -270,7 +270,7 @@ solve-chance-returns-3 t c =
     chance-ends (v .0) (v .1) (c .before .before .before .before .before .loop-test .left) (rows (k .last .0) (k .last .1 .0)) (k .ensures)
 
 solve-decision-row-count-requires : (t : ℕ) → solve-decision-lts.Need-row-count-requires (decision-calls t) (solve-decision-at t) solve-decision.Post solve-decision-Inv-loop solve-decision-μ-loop
-solve-decision-row-count-requires t c κs = (lit< tt, opens-layout _ (c .before .before .before .pre .1 .0 .opens))
+solve-decision-row-count-requires t c κs = (lit< tt, opens-layout _ (c .before .before .before .pre .1 .0 .noted .opens))
 
 solve-decision-first-child-requires : (t : ℕ) → solve-decision-lts.Need-first-child-requires (decision-calls t) (solve-decision-at t) solve-decision.Post solve-decision-Inv-loop solve-decision-μ-loop
 solve-decision-first-child-requires t c κs = let p = c .before .before .before .before .pre .1 in first-room (p .0 .linked) (p .1)
@@ -289,7 +289,7 @@ solve-decision-sound-action-edge-requires : (t : ℕ) → solve-decision-lts.Nee
 solve-decision-sound-action-edge-requires t c κs =
     let v = c .before .loop .inv in
     let h = c .loop-test .taken in
-    (v .0 .opens, in-rows (v .0) h, sound-edge (v .0) (v .1) h)
+    (v .0 .noted, in-rows (v .0) h, sound-edge (v .0) (v .1) h)
 
 solve-decision-next-child-requires : (t : ℕ) → solve-decision-lts.Need-next-child-requires (decision-calls t) (solve-decision-at t) solve-decision.Post solve-decision-Inv-loop solve-decision-μ-loop
 solve-decision-next-child-requires t c κs = next-room (c .before .before .loop .inv .0) (c .before .loop-test .taken)
@@ -444,7 +444,7 @@ solve-node-solve-decision-requires t c κs =
     let d = u .0 in
     let measure = p .0 in
     let low = p .1 .low in
-    (omega arith, (record { opens = p .1 .opens; linked = p .1 .linked; low = omega arith; memo = e .ensures .memo }, u .1, u .2))
+    (omega arith, (record { noted = p .1 .noted; linked = p .1 .linked; low = omega arith; memo = e .ensures .memo }, u .1, u .2))
 
 solve-node-enum-known-row-2 : (t : ℕ) → solve-node-lts.Need-enum-known-row-2 (node-calls t) (solve-node-at t) solve-node.Post
 solve-node-enum-known-row-2 t c = search needs
@@ -465,7 +465,7 @@ solve-node-solve-chance-requires t c κs =
     let d = u .0 in
     let measure = p .0 in
     let low = p .1 .low in
-    (omega arith, (record { opens = p .1 .opens; linked = p .1 .linked; low = omega arith; memo = e .ensures .memo }, u .1, u .2))
+    (omega arith, (record { noted = p .1 .noted; linked = p .1 .linked; low = omega arith; memo = e .ensures .memo }, u .1, u .2))
 
 solve-node-same-length : (t : ℕ) → solve-node-lts.Need-same-length (node-calls t) (solve-node-at t) solve-node.Post
 solve-node-same-length t c = c .before .before .before .before .before .enter .kept .1 .1 .1 .0

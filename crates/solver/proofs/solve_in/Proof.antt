@@ -14,10 +14,10 @@ note-rows-requires : tie.Need-note-rows-requires
 note-rows-requires c κs = search needs
 
 link-requires : tie.Need-link-requires
-link-requires c κs = let p = c .before .before .before .before .before .before .before .before .before .pre in (p .0, p .2 .node-room, p .2 .child-room)
+link-requires c κs = let p = c .before .before .before .before .before .before .before .before .before .pre in (c .before .before .before .before .note-rows .ensures, p .2 .node-room, p .2 .child-room)
 
 solve-node-requires : tie.Need-solve-node-requires
-solve-node-requires c κs = let p = c .before .before .before .before .before .before .before .before .before .before .before .before .before .before .before .before .pre in record { opens = p .0; linked = c .before .before .before .before .before .before .link .ensures; low = p .1; memo = p .2 .memo }
+solve-node-requires c κs = let p = c .before .before .before .before .before .before .before .before .before .before .before .before .before .before .before .before .pre in record { noted = c .before .before .before .before .before .before .before .before .before .before .before .note-rows .ensures; linked = c .before .before .before .before .before .before .link .ensures; low = p .1; memo = p .2 .memo }
 
 enum-known-v : tie.Need-enum-known-v
 enum-known-v c = search needs

@@ -5,6 +5,7 @@ use native.Mathlib.Omega.{arith}
 use borrow.Author.Needs.{needs}
 use denote.Ref.{now}
 use Rattle.opening.specs.SheetFault.{hasEntity}
+use Rattle.lookup.specs.Hints.{lookedUp}
 use Rattle.sheet.proofs.OpeningLaws.{few-nodes}
 use Rattle.topology.specs.Marks.{NodeAt}
 use Rattle.topology.proofs.NodeRows.{node-at, not-at}
@@ -21,7 +22,7 @@ found : (c : tie.After-row) → NodeAt (now (c .before .before .before .before .
 found c = node-at _ _ _ (c .before .before .find-row .ensures) _ (c .row .given .1)
 
 has-mark : (c : tie.After-row) → c .row .given .0 .0 < 1024
-has-mark c = omega (arith, found c .within, few-nodes _ (c .before .before .before .before .before .before .pre))
+has-mark c = omega (arith, found c .within, few-nodes _ (c .before .before .before .before .before .before .pre .opens))
 
 refuse-requires : tie.Need-refuse-requires
 refuse-requires c κs = search needs
@@ -30,7 +31,7 @@ returns : tie.Need-returns
 returns c = visit-spent _ _ _ _ _ _ (c .before .if1 .taken)
 
 find-row-requires : tie.Need-find-row-requires
-unfolding hasEntity
+unfolding lookedUp hasEntity
 find-row-requires c κs = (search needs, refl)
 
 enum-known-row : tie.Need-enum-known-row
@@ -63,7 +64,7 @@ returns-4 : tie.Need-returns-4
 returns-4 c = visit-again _ _ _ _ _ (deep (c .before .before .before .before .before .before .before .before)) _ (found (c .before .before .before .before .before)) (c .if3 .taken)
 
 node-row-requires : tie.Need-node-row-requires
-node-row-requires c κs = (c .before .before .before .before .before .before .before .before .before .before .before .pre, found (c .before .before .before .before .before) .within)
+node-row-requires c κs = (c .before .before .before .before .before .before .before .before .before .before .before .pre .opens, found (c .before .before .before .before .before) .within)
 
 check-kind-requires : tie.Need-check-kind-requires
 check-kind-requires c κs = search needs

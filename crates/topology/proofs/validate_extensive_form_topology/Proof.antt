@@ -1,6 +1,7 @@
 -- The call answers the topology of any bytes.
 use native.Mathlib.Omega.{arith}
 use denote.Ref.{now}
+use lib.Dec.{lit<}
 use Rattle.sheet.specs.Meaning.{Opens}
 use Rattle.sheet.proofs.OpeningLaws.{opens-layout, passed-opens, refused-opening, few-nodes}
 use Rattle.topology.proofs.CallLaws.{call-refused, call-targets, call-walks}
@@ -29,13 +30,13 @@ slice-aggregate-note-rows : tie.Need-slice-aggregate-note-rows
 slice-aggregate-note-rows c = search needs
 
 note-rows-requires : tie.Need-note-rows-requires
-note-rows-requires c κs = opens (c .before)
+note-rows-requires c κs = (opens (c .before), lit< tt)
 
 slice-aggregate-check-targets : tie.Need-slice-aggregate-check-targets
 slice-aggregate-check-targets c = search needs
 
 check-targets-requires : tie.Need-check-targets-requires
-check-targets-requires c κs = opens (c .before .before .before .before)
+check-targets-requires c κs = c .before .before .note-rows .ensures
 
 enum-told-3 : tie.Need-enum-told-3
 enum-told-3 c = search needs
@@ -60,7 +61,7 @@ add-validate-reachable-node : tie.Need-add-validate-reachable-node
 add-validate-reachable-node c = omega (arith, c .before .before .row-count .ensures, few-nodes _ (opens (c .before .before .before .before .before .before .before .before .before .before)))
 
 validate-reachable-node-requires : tie.Need-validate-reachable-node-requires
-validate-reachable-node-requires c κs = opens (c .before .before .before .before .before .before .before .before .before .before .before)
+validate-reachable-node-requires c κs = c .before .before .before .before .before .before .before .before .before .note-rows .ensures
 
 returns-3 : tie.Need-returns-3
 returns-3 c =

@@ -1,0 +1,55 @@
+-- A table of hints: a hint stands within it, what is noted stays noted when more is, and an entity without a hint has no row.
+use Prim.Native.Nat.{ℕ, _+_, _-_, _*_, _<_}
+use mathlib.Core.Path.{_≡_, refl}
+use mathlib.Core.Bool.{Bool, true, false}
+use mathlib.Core.List.{List}
+use mathlib.Core.Option.{none}
+use native.Mathlib.Omega.{arith}
+use borrow.Author.Tests.{ltb-true, eqb-true, eqb-false}
+use lib.Bits.{and-le-r}
+use lib.Dec.{eqb, ltb}
+use lib.ListN.{length, getD, set, length-set}
+use lib.Seq.{getD-set-same, getD-set-other}
+use Rattle.rows.specs.Rows.{findRow, entityAt}
+use Rattle.rows.proofs.RowLaws.{not-named}
+use Rattle.layout.specs.Layout.{width, section, rowCount, field}
+use Rattle.opening.specs.SheetFault.{hasEntity}
+use Rattle.opening.proofs.AcceptedRows.{left-true}
+use Rattle.lookup.specs.Hints.{lookedUp, placeOf, slotOf, hintOf, StillNoted, Noted}
+
+pub slot-within : (n k e : ℕ) → 0 < n → slotOf n k e < n
+unfolding slotOf
+slot-within n k e h = omega (arith, and-le-r (4 * e + placeOf k) (n - 1))
+
+-- a hint that is set
+module _ (hints : List ℕ) (j x : ℕ) (here : j < length hints) (given : 0 < x) where
+  set-positive : (i : ℕ) (b : Bool) → eqb i j ≡ b → 0 < getD hints i 0 → 0 < getD (set hints j x) i 0
+  set-positive i true e h = rw (eqb-true i j e, getD-set-same hints j x 0 here) given
+  set-positive i false e h = rw (getD-set-other hints j i x 0 (eqb-false i j e)) h
+
+  pub still-noted : StillNoted hints (set hints j x)
+  unfolding hintOf
+  still-noted k e h = rw (length-set hints j x) (set-positive _ _ refl h)
+
+  pub now-noted : (k e : ℕ) → j ≡ slotOf (length hints) k e → 0 < hintOf (set hints j x) k e
+  unfolding hintOf
+  now-noted k e p = rw (length-set hints j x, ← p, getD-set-same hints j x 0 here) given
+
+module _ (k : ℕ) (looked : lookedUp k ≡ true) where
+  pub looked-entity : hasEntity k ≡ true
+  unfolding lookedUp
+  looked-entity = left-true (hasEntity k) _ looked
+
+  pub looked-below : k < 8
+  unfolding hasEntity
+  looked-below = ltb-true k 8 (left-true (ltb k 8) _ looked-entity)
+
+  noted-at : (s hints : List ℕ) → Noted s hints → (i : ℕ) → i < rowCount s k → 0 < hintOf hints k (entityAt (width s k) (section s k) i)
+  unfolding field
+  noted-at s hints noted i l = noted .rows k looked-below looked i l
+
+  pub no-hint-no-row : (s hints : List ℕ) (e : ℕ) → Noted s hints → hintOf hints k e ≡ 0 → findRow (width s k) (section s k) (rowCount s k) e ≡ none
+  no-hint-no-row s hints e noted p =
+      not-named (width s k) (section s k) (rowCount s k) e λ i l q.
+      let h = rw (q, p) at (noted-at s hints noted i l) in
+      omega (arith, h)
