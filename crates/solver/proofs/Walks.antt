@@ -78,6 +78,9 @@ module _ {method : Method} {s hints links : List ℕ} {m₀ m : Rows} {row e lef
   pub walk-asks : {less : ℕ} → less < left → Asks method s hints links m less
   walk-asks h = let low = walk .low in record { noted = walk .noted; linked = walk .linked; low = omega arith; memo = walk .memo }
 
+  pub one-less : left ≡ suc (left - 1)
+  one-less = let deep = walk .deep in omega arith
+
   -- the next row
   module _ (turn : i < n) where
     pub in-rows : i < rowCount s 1
@@ -145,3 +148,7 @@ module _ {method : Method} {s hints links : List ℕ} {m₀ m : Rows} {row e lef
 -- a node that was entered, told apart
 pub entered-as : {method : Method} {s : List ℕ} (m m′ : Rows) {left e : ℕ} {r w : Entered} → r ≡ w → Enters method s m m′ left e r → EnteredAs method s m′ left e w
 entered-as {method} {s} m m′ {left} {e} q enters = subst (EnteredAs method s m′ left e) q (enters .entered)
+
+-- what the rest of the node asks, with so much depth left
+pub asks-entered : {method : Method} {s hints links : List ℕ} (m m′ : Rows) {left less e : ℕ} {r : Entered} → Asks method s hints links m left → less ≤ left → Enters method s m m′ left e r → Asks method s hints links m′ less
+asks-entered m m′ asks below enters = let low = asks .low in record { noted = asks .noted; linked = asks .linked; low = omega arith; memo = enters .memo }

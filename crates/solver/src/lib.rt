@@ -40,7 +40,7 @@ pub struct Solved {
     pub payoffs: [f64; 8],
 }
 
-// A node: entered, and then its replies or its outcomes are solved.
+// A node is entered, and a decision solves its replies.
 fn solve_node(
     sheet: &[u8],
     hints: &[u16],
@@ -56,18 +56,6 @@ fn solve_node(
 {
     match entering::enter(sheet, hints, links, heads, payoffs, method, entity, left) {
         Entered::Done(v) => v,
-        Entered::Decision(row, player) => solve_decision(
-            sheet,
-            hints,
-            links,
-            heads,
-            payoffs,
-            method,
-            entity,
-            row,
-            player,
-            left - 1,
-        ),
         Entered::Chance(row) => solve_chance(
             sheet,
             hints,
@@ -79,48 +67,32 @@ fn solve_node(
             row,
             left - 1,
         ),
-    }
-}
-
-// A decision solves its replies.
-fn solve_decision(
-    sheet: &[u8],
-    hints: &[u16],
-    links: &[u32],
-    heads: &mut [[u32; 7]],
-    payoffs: &mut [[f64; 8]],
-    method: Method,
-    entity: u32,
-    row: usize,
-    player: u32,
-    left: usize,
-) -> Visit
-    requires { ⌜ Asks method (now sheet) (now hints) (now links) (rows (now heads) (now payoffs)) (left + 1) × NodeAt (now sheet) row entity × Deciding method (now sheet) (rows (now heads) (now payoffs)) entity player 0 0 Bests.None ⌝ }
-    ensures { λ v. ⌜ Visits method (now (sheet .entry)) (rows (now (heads .entry)) (now (payoffs .entry))) (rows (now (heads .exit)) (now (payoffs .exit))) (left + 1) entity v ⌝ }
-{
-    let n = layout::row_count(sheet, 1);
-    let mut best = Best::None;
-    let mut deepest = 0;
-    let mut i = child_rows::first_child(links, row);
-    while i < n {
-        let step = edges::sound_action_edge(sheet, hints, entity, i);
-        i = child_rows::next_child(links, i);
-        let ActionStep::Edge(edge) = step else {
-            continue;
-        };
-        let target = edge.target;
-        let v = solve_node(sheet, hints, links, heads, payoffs, method, target, left);
-        let Visit::Solved(at) = v else {
-            return v;
-        };
-        let turn = turns::reply_to(heads, payoffs, player, best, edge, at);
-        match turn {
-            ReplyTurn::Stop(r) => return Visit::Refused(r),
-            ReplyTurn::Go(next) => best = next,
+        Entered::Decision(row, player) => {
+            let less = left - 1;
+            let n = layout::row_count(sheet, 1);
+            let mut best = Best::None;
+            let mut deepest = 0;
+            let mut i = child_rows::first_child(links, row);
+            while i < n {
+                let step = edges::sound_action_edge(sheet, hints, entity, i);
+                i = child_rows::next_child(links, i);
+                let ActionStep::Edge(edge) = step else {
+                    continue;
+                };
+                let target = edge.target;
+                let v = solve_node(sheet, hints, links, heads, payoffs, method, target, less);
+                let Visit::Solved(at) = v else {
+                    return v;
+                };
+                match turns::reply_to(heads, payoffs, player, best, edge, at) {
+                    ReplyTurn::Stop(r) => return Visit::Refused(r),
+                    ReplyTurn::Go(next) => best = next,
+                }
+                deepest = memo::deeper(heads, deepest, at);
+            }
+            turns::store_best(heads, payoffs, entity, row, best, deepest)
         }
-        deepest = memo::deeper(heads, deepest, at);
     }
-    turns::store_best(heads, payoffs, entity, row, best, deepest)
 }
 
 // A chance node solves its outcomes.
