@@ -74,9 +74,6 @@ module _ {A B : Type 0} (f : A → Answer (Option B)) where
   unfolding _▹_
   fault-on x xs o e = collect-fault x xs ∙ rw e
 
-  pub fault-stop : (x : A) (xs : List A) (r : Refusal) → f x ≡ refused r → faultIn (collect f (x ∷ xs)) ≡ some r
-  fault-stop x xs r e = ap faultIn (collect-stop x xs r e)
-
   -- what was collected is the first element's part and what was collected of the rest
   pub collect-done : {P : Type 0} (x : A) (xs : List A) (ys : List B) → collect f (x ∷ xs) ≡ done ys
       → ((o : Option B) (zs : List B) → f x ≡ done o → collect f xs ≡ done zs → ys ≡ keep o zs → P) → P

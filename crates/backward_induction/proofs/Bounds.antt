@@ -1,11 +1,11 @@
 -- What the code's arrays and loops need: how long an answer's lists are, and the payoffs of a chance node element by element.
 use mathlib.Core.Path.{_≡_, refl, ap, _∙_}
-use mathlib.Core.Bool.{Bool, true, false, _&&_}
+use mathlib.Core.Bool.{true}
 use mathlib.Core.List.{List, [], _∷_, zipWith}
-use mathlib.Core.Option.{some, Option·none-ne-some}
-use Prim.Native.Nat.{ℕ, zero, suc, _≤_, _<_}
+use mathlib.Core.Option.{some}
+use Prim.Native.Nat.{ℕ, suc, _≤_, _<_}
 use native.Mathlib.Omega.{arith}
-use lib.ListN.{length, getD, getElem?, length-map}
+use lib.ListN.{length, getElem?, length-map}
 use borrow.Author.Tests.{eqb-true}
 use Rattle.number.specs.Number.{Number, plus, times, isFinite}
 use Rattle.answer.specs.Answer.{done}
@@ -24,16 +24,6 @@ pub all-finite : (vs : List Number) → ((i : ℕ) (u : Number) → getElem? vs 
 unfolding allFinite
 all-finite [] h = refl
 all-finite (v ∷ vs) h = rw (h 0 v refl) (all-finite vs (λ i u e. h (suc i) u e))
-
-pub not-all-finite : (vs : List Number) (i : ℕ) (u : Number) → getElem? vs i ≡ some u → isFinite u ≡ false → allFinite vs ≡ false
-unfolding allFinite
-not-all-finite [] i u e h = absurd (Option·none-ne-some u e)
-not-all-finite (v ∷ vs) zero u e h = let k : isFinite v ≡ false = cc in rw k
-not-all-finite (v ∷ vs) (suc i) u e h = go (isFinite v) (not-all-finite vs i u e h)
-  where
-    go : (b : Bool) → allFinite vs ≡ false → (b && allFinite vs) ≡ false
-    go true k = k
-    go false k = refl
 
 -- ---- lengths
 
@@ -90,12 +80,3 @@ module _ (method : Method) (g : Game) (accepted : Accepted g) where
 
   pub solve-sized : (d n : ℕ) (s : Solution) → solve method g d n ≡ done s → Sized d s
   solve-sized = by-depth method g (λ d n s. Sized d s) solves-sized
-
--- ---- the products added, element by element
-pub sums-element : (p : Number) (sums vs : List Number) (i : ℕ) (x : Number) → length vs ≡ length sums → i < length sums
-    → getD (zipWith plus sums (products p vs)) i x ≡ plus (getD sums i x) (times p (getD vs i x))
-unfolding zipWith products
-sums-element p [] vs i x h l = absurd (omega arith)
-sums-element p (a ∷ sums) [] i x h l = absurd (omega arith)
-sums-element p (a ∷ sums) (v ∷ vs) zero x h l = refl
-sums-element p (a ∷ sums) (v ∷ vs) (suc i) x h l = sums-element p sums vs i x (omega arith) (omega arith)

@@ -5,8 +5,8 @@ use mathlib.Core.Option.{some}
 use Prim.Native.Nat.{ℕ}
 use lib.ListN.{getElem?}
 use lib.Dec.{T}
-use Rattle.number.specs.Number.{Number, times, atMost, isFinite, isProbability, Outcome, outcome, sumOn, weightedSum}
-use Rattle.number.proofs.Sums.{Under, weightedSum-mono}
+use Rattle.number.specs.Number.{Number, times, atMost, isFinite, isProbability}
+use Rattle.number.proofs.Sums.{Outcome, outcome, sumOn, weightedSum, Under, weightedSum-mono}
 use Rattle.answer.specs.Answer.{Answer, done}
 use Rattle.answer.proofs.AnswerLaws.{refused-not-done, bind-done}
 use Rattle.game.specs.Game.{Chance}

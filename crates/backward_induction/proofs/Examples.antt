@@ -4,7 +4,8 @@ use mathlib.Core.Bool.{true, false}
 use mathlib.Core.List.{List, [], _∷_, filterMap, zipWith}
 use mathlib.Core.Option.{none, some}
 use Prim.Native.Nat.{ℕ, _^_}
-use Rattle.number.specs.Number.{Number, finite, infinite, excessDigits, roundToNearestEven, overflow, plus, times, less, greatest}
+use Rattle.number.specs.Number.{Number, finite, infinite, excessDigits, roundToNearestEven, overflow, plus, times, less}
+use Rattle.number.proofs.Categories.{greatest}
 use Rattle.answer.specs.Fault.{given}
 use Rattle.answer.specs.Answer.{refused, done, collect}
 use Rattle.answer.specs.Refusals.{inconsistentChancePayoffCount, outOfRange}

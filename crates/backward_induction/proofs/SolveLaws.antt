@@ -1,24 +1,23 @@
 -- The solve one step at a time, as its code goes: at each kind of node, and along a node's edges with what is held so far.
 use mathlib.Core.Path.{_≡_, refl}
 use mathlib.Core.Bool.{Bool, true, false}
-use mathlib.Core.List.{List, [], _∷_, List·Memᴰ·head, List·Memᴰ·tail, zipWith}
+use mathlib.Core.List.{List, [], _∷_}
 use mathlib.Core.Option.{Option, none, some, Option·getD}
 use Prim.Native.Nat.{ℕ, suc}
-use lib.ListN.{length, getElem?}
-use borrow.Author.Tests.{eq-eqb, ne-eqb}
-use Rattle.number.specs.Number.{Number, plus, less}
+use lib.ListN.{getElem?}
+use Rattle.number.specs.Number.{Number, less}
 use Rattle.answer.specs.declared.Refusal.{Refusal}
-use Rattle.answer.specs.Answer.{Answer, refused, done, _>>=_, orRefuse}
-use Rattle.answer.specs.Refusals.{missingNode, missingTerminalUtility, noOutgoingActions, noOutgoingChanceOutcomes, missingPlayerPayoff, inconsistentChancePayoffCount, unsupportedChanceNode, depthSpent, outOfRange}
+use Rattle.answer.specs.Answer.{refused, done, _>>=_}
+use Rattle.answer.specs.Refusals.{missingNode, missingPlayerPayoff, unsupportedChanceNode, depthSpent, outOfRange}
 use Rattle.game.specs.declared.Kind.the-variants as Kinds
 use Rattle.game.specs.declared.ActionEdge.{ActionEdge}
-use Rattle.game.specs.Game.{Game, Chance, TerminalUtility, kindOf, terminalOf}
+use Rattle.game.specs.Game.{Game, Chance, kindOf}
 use Rattle.game.specs.Edges.{outgoingActionEdges, outgoingChanceOutcomes}
 use Rattle.backward_induction.specs.declared.Method.{Method}
 use Rattle.backward_induction.specs.declared.Method.the-variants as Methods
-use Rattle.backward_induction.specs.Solve.{Solution, Reply, Solver, reply, better, best, bestOf, taken, products, added, sumsOn, sumsOf, allFinite, inRange, atChance, atKind, step, solve}
+use Rattle.backward_induction.specs.Solve.{Solution, Reply, Solver, reply, better, best, bestOf, taken, added, sumsOn, sumsOf, allFinite, inRange, atChance, atKind, step, solve}
 use Rattle.backward_induction.specs.Turns.{leading, bestFrom, addedTo, sumsFrom}
-use Rattle.backward_induction.proofs.Related.{equality, AtEdges, AtOutcomes, reply-related}
+use Rattle.backward_induction.proofs.Related.{equality, reply-related}
 
 -- ---- the solve by the depths left
 module _ (method : Method) (g : Game) where
@@ -35,15 +34,6 @@ module _ (method : Method) (g : Game) (f : Solver) (e : ℕ) where
   pub step-missing : kindOf g e ≡ none → step method g f e ≡ refused (missingNode e)
   unfolding step
   step-missing k = rw k
-
-  pub step-terminal : (t : TerminalUtility) → kindOf g e ≡ some Kinds.Terminal → terminalOf g e ≡ some t
-      → step method g f e ≡ done (record { terminal = some e; actions = []; payoffs = t .payoffs })
-  unfolding step atKind
-  step-terminal t k h = rw (k, h)
-
-  pub step-no-utility : kindOf g e ≡ some Kinds.Terminal → terminalOf g e ≡ none → step method g f e ≡ refused (missingTerminalUtility e)
-  unfolding step atKind
-  step-no-utility k h = rw (k, h)
 
   module _ (p : ℕ) (k : kindOf g e ≡ some (Kinds.Decision p)) where
     pub step-action-fault : (r : Refusal) → outgoingActionEdges g e ≡ refused r → step method g f e ≡ refused r
@@ -96,22 +86,9 @@ module _ (f : Solver) (p : ℕ) where
   reply-done x s v h k = rw (h, k)
 
   module _ (e : ℕ) where
-    pub bestFrom-nil : bestFrom f e p none [] ≡ refused (noOutgoingActions e)
-    unfolding bestFrom
-    bestFrom-nil = refl
-
-    pub bestFrom-end : (r : Reply) → bestFrom f e p (some r) [] ≡ done r
-    unfolding bestFrom
-    bestFrom-end r = refl
-
     pub bestFrom-cons : (lead : Option Reply) (x : ActionEdge) (xs : List ActionEdge) → bestFrom f e p lead (x ∷ xs) ≡ (reply f p x >>= λ s. bestFrom f e p (some (leading lead s)) xs)
     unfolding bestFrom
     bestFrom-cons lead x xs = refl
-
-    pub bestFrom-next : (lead : Option Reply) (x : ActionEdge) (xs : List ActionEdge) (s : Reply) → reply f p x ≡ done s
-        → bestFrom f e p lead (x ∷ xs) ≡ bestFrom f e p (some (leading lead s)) xs
-    unfolding bestFrom
-    bestFrom-next lead x xs s h = rw h
 
     pub bestFrom-stop : (lead : Option Reply) (x : ActionEdge) (xs : List ActionEdge) (r : Refusal) → reply f p x ≡ refused r → bestFrom f e p lead (x ∷ xs) ≡ refused r
     unfolding bestFrom
@@ -145,46 +122,15 @@ better-cases P r s kept later = go (less (r .payoff) (s .payoff)) refl
 
 -- ---- a chance node's outcomes, with the sums so far
 
--- 19, or the products added
-module _ (e : ℕ) (sums : List Number) (p : Number) (vs : List Number) where
-  pub added-differs : (length vs ≡ length sums → ⊥) → added e sums p vs ≡ refused (inconsistentChancePayoffCount e (length sums) (length vs))
-  unfolding added
-  added-differs h = rw (ne-eqb (length vs) (length sums) h, added)
-
-  pub added-same : length vs ≡ length sums → added e sums p vs ≡ done (zipWith plus sums (products p vs))
-  unfolding added
-  added-same h = rw (eq-eqb (length vs) (length sums) h, added)
-
 module _ (f : Solver) (e : ℕ) where
-  pub sumsFrom-nil : sumsFrom f e none [] ≡ refused (noOutgoingChanceOutcomes e)
-  unfolding sumsFrom
-  sumsFrom-nil = refl
-
-  pub sumsFrom-end : (sums : List Number) → sumsFrom f e (some sums) [] ≡ done sums
-  unfolding sumsFrom
-  sumsFrom-end sums = refl
-
   pub sumsFrom-cons : (sums : Option (List Number)) (o : Chance) (os : List Chance)
       → sumsFrom f e sums (o ∷ os) ≡ (f (o .target) >>= λ s. addedTo e sums (o .probability) (s .payoffs) >>= λ more. sumsFrom f e (some more) os)
   unfolding sumsFrom
   sumsFrom-cons sums o os = refl
 
-  pub sumsFrom-next : (sums : Option (List Number)) (o : Chance) (os : List Chance) (s : Solution) (more : List Number) → f (o .target) ≡ done s
-      → addedTo e sums (o .probability) (s .payoffs) ≡ done more
-      → sumsFrom f e sums (o ∷ os) ≡ sumsFrom f e (some more) os
-  unfolding sumsFrom
-  sumsFrom-next sums o os s more h k = rw (h, k)
-
   pub sumsFrom-stop : (sums : Option (List Number)) (o : Chance) (os : List Chance) (r : Refusal) → f (o .target) ≡ refused r → sumsFrom f e sums (o ∷ os) ≡ refused r
   unfolding sumsFrom
   sumsFrom-stop sums o os r h = rw h
-
-  -- 19 at an outcome
-  pub sumsFrom-differs : (sums : Option (List Number)) (o : Chance) (os : List Chance) (s : Solution) (r : Refusal) → f (o .target) ≡ done s
-      → addedTo e sums (o .probability) (s .payoffs) ≡ refused r
-      → sumsFrom f e sums (o ∷ os) ≡ refused r
-  unfolding sumsFrom
-  sumsFrom-differs sums o os s r h k = rw (h, k)
 
   sumsOn-from : (sums : List Number) (os : List Chance) → sumsOn f e sums os ≡ sumsFrom f e (some sums) os
   unfolding sumsOn sumsFrom
@@ -200,16 +146,3 @@ module _ (f : Solver) (e : ℕ) where
 module _ (f f′ : Solver) where
   pub reply-same : (p : ℕ) (x : ActionEdge) → f (x .target) ≡ f′ (x .target) → reply f p x ≡ reply f′ p x
   reply-same = reply-related equality f f′
-
-  pub bestFrom-same : (e p : ℕ) (lead : Option Reply) (xs : List ActionEdge) → AtEdges equality f f′ xs → bestFrom f e p lead xs ≡ bestFrom f′ e p lead xs
-  unfolding bestFrom
-  bestFrom-same e p lead [] h = refl
-  bestFrom-same e p lead (x ∷ xs) h = equality .bind _ _ _ _ (reply-same p x (h x (List·Memᴰ·head refl))) (λ s. bestFrom-same e p _ xs (λ y i. h y (List·Memᴰ·tail i)))
-
-  pub sumsFrom-same : (e : ℕ) (sums : Option (List Number)) (os : List Chance) → AtOutcomes equality f f′ os → sumsFrom f e sums os ≡ sumsFrom f′ e sums os
-  unfolding sumsFrom
-  sumsFrom-same e sums [] h = refl
-  sumsFrom-same e sums (o ∷ os) h =
-      equality .bind _ _ _ _ (h o (List·Memᴰ·head refl)) λ s.
-      equality .bind (addedTo e sums (o .probability) (s .payoffs)) _ _ _ refl λ more.
-      sumsFrom-same e (some more) os (λ y i. h y (List·Memᴰ·tail i))

@@ -10,17 +10,12 @@ use lib.Dec.{ltb, leb}
 use Rattle.answer.specs.declared.Refusal.{Refusal}
 use Rattle.answer.specs.Refusals.{depthSpent, missingNode, unsupportedChanceNode}
 use Rattle.answer.specs.Answer.{Answer, refused, done, _>>=_, faultIn}
-use Rattle.rows.specs.Rows.{findRow, foundAt}
-use Rattle.rows.specs.declared.Found.{Found}
-use Rattle.rows.specs.declared.Found.the-variants.{At, Nothing}
-use Rattle.rows.proofs.RowLaws.{found-in}
-use Rattle.layout.specs.Layout.{width, section, rowCount, field}
-use Rattle.lookup.proofs.Lookup.{row-found, lookup-found, lookup-missing}
+use Rattle.layout.specs.Layout.{rowCount}
 use Rattle.game.specs.declared.Kind.the-variants as Kinds
-use Rattle.game.specs.declared.Node.{Node}
-use Rattle.game.specs.Game.{kindOf, kindIn, nodeOf}
+use Rattle.game.specs.Game.{kindOf}
 use Rattle.game.specs.Edges.{outgoingActionEdges, outgoingChanceOutcomes}
-use Rattle.sheet.specs.Meaning.{nodeRow, gameOf}
+use Rattle.sheet.specs.Meaning.{gameOf}
+use Rattle.sheet.specs.Found.{NodeAt}
 use Rattle.sheet.proofs.ChildWalk.{actions-walk, chances-walk}
 use Rattle.backward_induction.specs.declared.Method.{Method}
 use Rattle.backward_induction.specs.declared.Method.the-variants as Methods
@@ -29,21 +24,7 @@ use Rattle.backward_induction.proofs.SolveLaws.{solve-zero, solve-suc, step-mis
 use Rattle.memo.specs.Memo.{Rows, entry, height, known}
 use Rattle.memo.specs.Visits.{SolvedIn}
 use Rattle.entering.specs.declared.Entered.the-variants as E
-use Rattle.entering.specs.Solving.{NodeAt, EnteredAs}
-
--- ---- the node's row
-module _ (s : List ℕ) (e : ℕ) (f : Found) (found : foundAt f ≡ findRow (width s 0) (section s 0) (rowCount s 0) e) where
-  pub node-at : (row : ℕ) → f ≡ At row → NodeAt s row e
-  unfolding field
-  node-at row p = record { here = row-found s 0 e f found row p; entity = found-in (width s 0) (section s 0) (rowCount s 0) e row (sym found ∙ ap foundAt p) .1 }
-
-  pub node-kind : (row : ℕ) → f ≡ At row → kindOf (gameOf s) e ≡ some (nodeRow s row .kind)
-  unfolding kindOf nodeOf gameOf nodeRow
-  node-kind row p = ap kindIn (lookup-found s 0 e f found (nodeRow s) (λ (n : Node). n .entity) (λ i. refl) row p)
-
-  pub node-missing : f ≡ Nothing → kindOf (gameOf s) e ≡ none
-  unfolding kindOf nodeOf gameOf nodeRow
-  node-missing p = ap kindIn (lookup-missing s 0 e f found (nodeRow s) (λ (n : Node). n .entity) (λ i. refl) p)
+use Rattle.entering.specs.Solving.{EnteredAs}
 
 -- ---- the solve with some depth left
 module _ (method : Method) (s : List ℕ) (e : ℕ) where

@@ -6,7 +6,7 @@ use native.Mathlib.Omega.{arith}
 use lib.ListN.{length}
 use Rattle.child_rows.specs.Links.{NextOf, firstChild, Linked, Chain}
 use Rattle.child_rows.proofs.LinkLaws.{chain-starts}
-use Rattle.entering.specs.Solving.{NodeAt}
+use Rattle.sheet.specs.Found.{NodeAt}
 
 module _ {s links : List ℕ} {row e : ℕ} (linked : Linked s links) (node : NodeAt s row e) where
   pub first-room : 2 * row < length links

@@ -6,13 +6,14 @@ use mathlib.Core.Option.{Option, none}
 use lib.ListN.{length}
 use Rattle.number.specs.Number.{Number}
 use Rattle.answer.specs.Answer.{done, _>>=_}
-use Rattle.layout.specs.Layout.{rowCount, field}
+use Rattle.layout.specs.Layout.{rowCount}
 use Rattle.lookup.specs.Hints.{Noted}
 use Rattle.graph_relations.specs.RelationRows.{childRow}
 use Rattle.game.specs.declared.ActionEdge.{ActionEdge}
 use Rattle.game.specs.Game.{Chance}
 use Rattle.game.specs.Edges.{actionEdgeIn, chanceOutcomeIn, collectFrom}
 use Rattle.sheet.specs.Meaning.{gameOf}
+use Rattle.sheet.specs.Found.{NodeAt}
 use Rattle.child_rows.specs.Links.{Linked}
 use Rattle.backward_induction.specs.declared.Method.{Method}
 use Rattle.backward_induction.specs.Solve.{taken, inRange, solve}
@@ -26,11 +27,6 @@ use Rattle.turns.specs.Replies.{leadIn, KeptIn}
 use Rattle.turns.specs.Sums.{Holds}
 use Rattle.entering.specs.declared.Entered.{Entered}
 use Rattle.entering.specs.declared.Entered.the-variants as E
-
--- the node row of e
-pub record NodeAt (s : List ℕ) (row e : ℕ) : Type 0 where
-  pub here : row < rowCount s 0
-  pub entity : field s 0 row 0 ≡ e
 
 -- what a solve is lent: room for hints and links, and a memo
 pub record Lent (method : Method) (s hints links : List ℕ) (m : Rows) : Type 0 where

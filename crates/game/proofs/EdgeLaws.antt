@@ -4,11 +4,11 @@ use Prim.Native.Nat.{ℕ}
 use mathlib.Core.Path.{_≡_, refl, sym, ap, _∙_}
 use mathlib.Core.List.{List, [], _∷_, List·Memᴰ, Memᴰ·cast}
 use mathlib.Core.Option.{Option, none, some, Option·some-injective, Option·some-ne-none}
-use borrow.Author.Tests.{eq-eqb, ne-eqb, eqb-true, not-false}
+use borrow.Author.Tests.{eqb-true, not-false}
 use Rattle.answer.specs.Fault.{Fault}
 use Rattle.answer.specs.Answer.{done, unless, keep, collect}
-use Rattle.answer.specs.Refusals.{missingTransition, transitionTargetMismatch}
-use Rattle.answer.proofs.FaultLaws.{given-true, given-false, given-none}
+use Rattle.answer.specs.Refusals.{missingTransition}
+use Rattle.answer.proofs.FaultLaws.{given-none}
 use Rattle.answer.proofs.AnswerLaws.{refused-not-done, done-injective, collect-nil, collect-skip, collected-from}
 use Rattle.rows.specs.Store.{get}
 use Rattle.rows.proofs.StoreLaws.{get-in}
@@ -23,14 +23,6 @@ module _ (edge target : ℕ) where
   pub transition-missing : transitionFault edge target none ≡ some (missingTransition edge)
   unfolding transitionFault
   transition-missing = refl
-
-  pub transition-elsewhere : (t : ℕ) → (target ≡ t → ⊥) → transitionFault edge target (some t) ≡ some (transitionTargetMismatch edge target t)
-  unfolding transitionFault
-  transition-elsewhere t h = given-true _ _ (rw (ne-eqb target t h))
-
-  pub transition-agrees : (t : ℕ) → target ≡ t → transitionFault edge target (some t) ≡ none
-  unfolding transitionFault
-  transition-agrees t h = given-false _ _ (rw (eq-eqb target t h))
 
   -- no fault: the transition leads to the target
   pub transition-ok : (o : Option ℕ) → transitionFault edge target o ≡ none → o ≡ some target

@@ -1,13 +1,13 @@
 -- Collecting over the rows 0 to n - 1 one after the other: what row i adds, and what the rows from i on still give.
-use Prim.Native.Nat.{ℕ, _+_, _-_, _≤_, _<_}
+use Prim.Native.Nat.{ℕ, _+_, _≤_, _<_}
 use mathlib.Core.Path.{_≡_, refl, sym, ap, _∙_}
 use mathlib.Core.List.{List, [], _∷_}
 use mathlib.Core.Option.{Option, none, some}
 use native.Mathlib.Nat.{sub-zero}
 use Rattle.answer.specs.declared.Refusal.{Refusal}
-use Rattle.answer.specs.Answer.{Answer, refused, done, _>>=_, faultIn, keep, collect}
-use Rattle.answer.proofs.AnswerLaws.{refused-not-done, done-injective, collect-nil, collect-skip, collect-keep, collect-stop, collect-done, fault-on}
-use Rattle.rows.specs.Store.{rowsFrom, allRows}
+use Rattle.answer.specs.Answer.{Answer, refused, done, faultIn, keep, collect}
+use Rattle.answer.proofs.AnswerLaws.{refused-not-done, done-injective, collect-nil, collect-skip, collect-stop, collect-done, fault-on}
+use Rattle.rows.specs.Store.{allRows}
 use Rattle.rows.proofs.StoreLaws.{rows-next, rows-end}
 use Rattle.game.specs.Edges.{collectFrom}
 
@@ -21,9 +21,6 @@ module _ {A B : Type 0} (f : A → Answer (Option B)) (row : ℕ → A) (n : ℕ
 
     pub from-skip : i < n → f (row i) ≡ done none → collectFrom f row n i ≡ collectFrom f row n (i + 1)
     from-skip l e = rw (rows-next row i n l) (collect-skip f (row i) _ e)
-
-    pub from-keep : (y : B) → i < n → f (row i) ≡ done (some y) → collectFrom f row n i ≡ (collectFrom f row n (i + 1) >>= λ ys. done (y ∷ ys))
-    from-keep y l e = rw (rows-next row i n l) (collect-keep f (row i) _ y e)
 
     pub from-stop : (r : Refusal) → i < n → f (row i) ≡ refused r → collectFrom f row n i ≡ refused r
     from-stop r l e = rw (rows-next row i n l) (collect-stop f (row i) _ r e)

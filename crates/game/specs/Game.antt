@@ -60,9 +60,6 @@ chanceOf g e = get (λ (c : Chance). c .edge) e (g .chances)
 unfoldable pub terminalOf : Game → ℕ → Option TerminalUtility
 terminalOf g e = get (λ (t : TerminalUtility). t .entity) e (g .terminals)
 
-unfoldable pub setOf : Game → ℕ → Option InformationSet
-setOf g e = get (λ (i : InformationSet). i .entity) e (g .sets)
-
 -- ---- labels
 
 -- the text of a label number

@@ -12,7 +12,7 @@ pub struct Node {
     pub kind: Kind,
 }
 
-// An edge out of a decision: a label number, and the node that it leads to.
+// An action edge out of a node: a label number, and the node that it leads to.
 pub struct ActionEdge {
     pub edge: u32,
     pub target: u32,

@@ -33,7 +33,6 @@ pub enum Kuhn {
     Refused(Refusal),
 }
 
-// The weight of iteration t.
 fn weight_of(variant: CfrVariant, t: u64) -> f64
     requires { ⌜ t ≤ 1_000_000 ⌝ }
     ensures { λ r. ⌜ r ≡ weightOf variant t ⌝ }
@@ -68,7 +67,6 @@ fn update_regrets(variant: CfrVariant, weight: f64, regrets: &mut [f64; 24], del
     }
 }
 
-// Iteration t.
 fn iterate(variant: CfrVariant, t: u64, regrets: &mut [f64; 24], sums: &mut [f64; 24])
     requires { ⌜ (t ≤ 1_000_000) × (length (now regrets) ≡ 24) × (length (now sums) ≡ 24) ⌝ }
     ensures { λ _. ⌜ state (now (regrets .exit)) (now (sums .exit)) ≡ Solve.iterate variant t (state (now (regrets .entry)) (now (sums .entry))) ⌝ }

@@ -10,7 +10,7 @@ use answer::refuse;
 use little_endian::u16_at;
 use little_endian::u32_at;
 
-// Bytes in a row of section k. The sheet tells, since the edition decides.
+// Bytes in a row of section k. The sheet is asked, since a later edition may have wider rows.
 pub fn width_of(sheet: &[u8], k: usize) -> usize
     requires { ⌜ (k < 10) × (92 ≤ length (now sheet)) ⌝ }
     ensures { λ r. ⌜ r ≡ width (now (sheet .entry)) k ⌝ }

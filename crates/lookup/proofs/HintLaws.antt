@@ -5,7 +5,7 @@ use mathlib.Core.Bool.{Bool, true, false}
 use mathlib.Core.List.{List}
 use mathlib.Core.Option.{none}
 use native.Mathlib.Omega.{arith}
-use borrow.Author.Tests.{ltb-true, eqb-true, eqb-false}
+use borrow.Author.Tests.{ltb-true, lt-ltb, eqb-true, eqb-false, ne-eqb}
 use lib.Bits.{and-le-r}
 use lib.Dec.{eqb, ltb}
 use lib.ListN.{length, getD, set, length-set}
@@ -15,11 +15,11 @@ use Rattle.rows.proofs.RowLaws.{not-named}
 use Rattle.layout.specs.Layout.{width, section, rowCount, field}
 use Rattle.opening.specs.SheetFault.{hasEntity}
 use Rattle.opening.proofs.AcceptedRows.{left-true}
-use Rattle.lookup.specs.Hints.{lookedUp, placeOf, slotOf, hintOf, StillNoted, Noted}
+use Rattle.lookup.specs.Hints.{lookedUp, placeOf, folded, slotOf, hintOf, StillNoted, Noted}
 
 pub slot-within : (n k e : ℕ) → 0 < n → slotOf n k e < n
 unfolding slotOf
-slot-within n k e h = omega (arith, and-le-r (4 * e + placeOf k) (n - 1))
+slot-within n k e h = omega (arith, and-le-r (4 * folded e + placeOf k) (n - 1))
 
 -- a hint that is set
 module _ (hints : List ℕ) (j x : ℕ) (here : j < length hints) (given : 0 < x) where
@@ -35,14 +35,23 @@ module _ (hints : List ℕ) (j x : ℕ) (here : j < length hints) (given : 0 < x
   unfolding hintOf
   now-noted k e p = rw (length-set hints j x, ← p, getD-set-same hints j x 0 here) given
 
-module _ (k : ℕ) (looked : lookedUp k ≡ true) where
-  pub looked-entity : hasEntity k ≡ true
-  unfolding lookedUp
-  looked-entity = left-true (hasEntity k) _ looked
+-- the sections that are looked up
+pub looked-up : (k : ℕ) → k < 6 → (k ≡ 1 → ⊥) → lookedUp k ≡ true
+unfolding lookedUp
+looked-up k l n = rw (lt-ltb k 6 l, ne-eqb k 1 n)
 
-  pub looked-below : k < 8
+pub not-looked-up : lookedUp 1 ≡ false
+unfolding lookedUp
+not-looked-up = refl
+
+module _ (k : ℕ) (looked : lookedUp k ≡ true) where
+  looked-below : k < 6
+  unfolding lookedUp
+  looked-below = ltb-true k 6 (left-true (ltb k 6) _ looked)
+
+  pub looked-entity : hasEntity k ≡ true
   unfolding hasEntity
-  looked-below = ltb-true k 8 (left-true (ltb k 8) _ looked-entity)
+  looked-entity = let l = looked-below in rw (lt-ltb k 8 (omega arith), ne-eqb k 6 (λ e. omega arith))
 
   noted-at : (s hints : List ℕ) → Noted s hints → (i : ℕ) → i < rowCount s k → 0 < hintOf hints k (entityAt (width s k) (section s k) i)
   unfolding field

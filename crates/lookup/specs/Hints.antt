@@ -1,5 +1,5 @@
 -- A table of hints: in which row of a section an entity may stand. A hint is the row's number and one more, or 0 where no row is noted. Definitions only.
-use Prim.Native.Nat.{ℕ, _+_, _-_, _*_, _<_}
+use Prim.Native.Nat.{ℕ, _+_, _-_, _*_, _/_, _<_}
 use mathlib.Core.Path.{_≡_}
 use mathlib.Core.Bool.{Bool, true, not, cond, _&&_}
 use mathlib.Core.Option.{none}
@@ -8,19 +8,23 @@ use lib.Bits.{bitAnd}
 use lib.Dec.{eqb, ltb}
 use lib.ListN.{length, getD}
 use Rattle.layout.specs.Layout.{rowCount, field}
-use Rattle.opening.specs.SheetFault.{hasEntity, sheetFault}
+use Rattle.opening.specs.SheetFault.{sheetFault}
 
--- the sections whose rows are looked up by entity: all that name one but the child rows
+-- the sections whose rows are looked up by entity: nodes, actions, chances, transitions and terminals
 unfoldable pub lookedUp : ℕ → Bool
-lookedUp k = hasEntity k && not (eqb k 1)
+lookedUp k = ltb k 6 && not (eqb k 1)
 
--- which of an entity's four hints is that of its row of section k: its node, action or chance, transition, and terminal or set row
+-- which of an entity's four hints is that of its row of section k: its node, action or chance, transition and terminal row
 unfoldable pub placeOf : ℕ → ℕ
 placeOf k = cond (eqb k 0) 0 (cond (ltb k 4) 1 (cond (eqb k 4) 2 3))
 
+-- an entity and its higher digits added up: entities one after the other, or in steps of a power of two, have slots of their own in tables of any length
+unfoldable pub folded : ℕ → ℕ
+folded e = e + e / 2048 + e / 65536 + e / 4194304
+
 -- where in a table of n hints that of an entity's row of section k stands
 unfoldable pub slotOf : ℕ → ℕ → ℕ → ℕ
-slotOf n k e = bitAnd (4 * e + placeOf k) (n - 1)
+slotOf n k e = bitAnd (4 * folded e + placeOf k) (n - 1)
 
 unfoldable pub hintOf : List ℕ → ℕ → ℕ → ℕ
 hintOf hints k e = getD hints (slotOf (length hints) k e) 0
@@ -41,4 +45,4 @@ NotedBelow s k hints = (j : ℕ) → j < k → lookedUp j ≡ true → NotedTo s
 pub record Noted (s hints : List ℕ) : Type 0 where
   pub opens : sheetFault s ≡ none
   pub room : 0 < length hints
-  pub rows : NotedBelow s 8 hints
+  pub rows : NotedBelow s 6 hints

@@ -1,6 +1,6 @@
 // Lookups of a row by its entity in a sheet without fault, by a table of hints that is filled once.
-// Hints: in which row of section k an entity may stand, at 4 * entity and the section's place modulo the table's length (a power of two).
-// A node has rows in sections 0 and 5 or 7, and an edge in 2 or 3 and in 4, so that the rows of one entity have hints of their own.
+// Hints: in which row of section k an entity may stand. An entity has four places one after the other, in a table whose length is a power of two.
+// A node has rows in sections 0 and 5, and an edge in 2 or 3 and in 4, so that the rows of one entity have hints of their own.
 // A hint is looked at before it is used, since rows of different entities may share one; where there is none there is no row.
 ghost use mathlib.Core.Path.{_≡_};
 ghost use mathlib.Core.Option.{none};
@@ -36,7 +36,8 @@ fn slot(n: usize, k: usize, entity: u32) -> usize
     requires { ⌜ 0 < n ⌝ }
     ensures { λ r. ⌜ r ≡ slotOf n k entity ⌝ }
 {
-    (4 * entity as usize + place(k)) & (n - 1)
+    let e = entity as usize;
+    (4 * (e + e / 2048 + e / 65536 + e / 4194304) + place(k)) & (n - 1)
 }
 
 fn note(hints: &mut [u16], k: usize, entity: u32, hint: u16)
@@ -61,21 +62,14 @@ fn note_section(sheet: &[u8], hints: &mut [u16], k: usize)
     }
 }
 
-// Whether the rows of section k are looked up by entity.
-fn is_looked_up(k: usize) -> bool
-    ensures { λ r. ⌜ r ≡ lookedUp k ⌝ }
-{
-    opening::has_entity(k) && k != 1
-}
-
 // Notes each row that may be looked up.
 pub fn note_rows(sheet: &[u8], hints: &mut [u16])
     requires { ⌜ (sheetFault (now sheet) ≡ none) × (0 < length (now hints)) ⌝ }
     ensures { λ _. ⌜ Noted (now (sheet .entry)) (now (hints .exit)) ⌝ }
 {
     let mut k = 0;
-    while k < 8 {
-        if !is_looked_up(k) {
+    while k < 6 {
+        if k == 1 {
             k += 1;
             continue;
         }

@@ -38,7 +38,7 @@ pub fn wide(x: u32) -> usize
 }
 
 // The height of the answer in a row; 0 where there is none.
-pub fn height_at(heads: &[[u32; 7]], row: usize) -> usize
+fn height_at(heads: &[[u32; 7]], row: usize) -> usize
     requires { ⌜ row < length (now heads) ⌝ }
     ensures { λ r. ⌜ r ≡ getD (getD (now (heads .entry)) row []) 0 0 ⌝ }
 {

@@ -5,7 +5,8 @@ use Prim.Native.Nat.{ℕ, _+_, _-_, _≤_, _<_}
 use native.Mathlib.Nat.{zero-lt-suc}
 use native.Mathlib.Omega.{arith}
 use lib.Dec.{T, ltb, ltb→lt, nltb→le}
-use Rattle.number.specs.Number.{Number, finite, infinite, nan, roundToNearestEven, overflow, signedSum, plus, positivePart, negativePart, atMost, isFinite, isNumber}
+use Rattle.number.specs.Number.{Number, finite, infinite, nan, roundToNearestEven, overflow, signedSum, plus, positivePart, negativePart, atMost, isFinite}
+use Rattle.number.proofs.Categories.{isNumber}
 use Rattle.number.proofs.Order.{Signed, AtMost, bottom, top, signed, to-cases, of-cases}
 use Rattle.number.proofs.Overflow.{overflow-number, overflow-round-mono}
 

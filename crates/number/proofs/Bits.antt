@@ -8,7 +8,8 @@ use lib.Ieee as K
 use lib.Ieee.{Float, inf, fin, binary64, up, down, odd, fits, isNan, ofBits}
 use lib.Ieee.Exact.{odd-sign}
 use lib.Ieee.Bits.{ofBits-toBits, toBits-ofBits}
-use Rattle.number.specs.Number.{finite, infinite, nan, isNumber, fromFields, fromBits, toBits}
+use Rattle.number.specs.Number.{finite, infinite, nan, fromFields, fromBits, toBits}
+use Rattle.number.proofs.Categories.{isNumber}
 use Rattle.number.specs.Meaning.{meaning}
 use Rattle.number.proofs.Ulp.{ulp-is}
 use Rattle.number.proofs.Parts.{meaning-of-value}

@@ -11,7 +11,8 @@ use lib.Ieee as K
 use lib.Ieee.{Float, binary64, fits}
 use lib.Ieee.Fits.{eq→eqb}
 use lib.Ieee.Bits.{ofBits-toBits}
-use Rattle.number.specs.Number.{Number, finite, infinite, nan, roundToNearestEven, overflow, productSign, plus, times, fromFields, fromBits, greatest, bounded}
+use Rattle.number.specs.Number.{Number, finite, infinite, nan, roundToNearestEven, overflow, productSign, plus, times, fromFields, fromBits}
+use Rattle.number.proofs.Categories.{greatest, bounded}
 use Rattle.number.specs.Meaning.{meaning}
 use Rattle.number.proofs.Nearest.{Representable, round-representable}
 use Rattle.number.proofs.Bits.{meaning-ofBits}

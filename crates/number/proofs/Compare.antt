@@ -11,7 +11,8 @@ use lib.Dec.{T, ltb, eqb, leb·suc-zero}
 use lib.Pow.{pow-pos}
 use lib.Ieee.{Float, inf, fin, binary64, up, down, fits, below, level, lt, le}
 use lib.Ieee.Fits.{down-pos}
-use Rattle.number.specs.Number.{positivePart, negativePart, less, atMost, isNumber}
+use Rattle.number.specs.Number.{positivePart, negativePart, less, atMost}
+use Rattle.number.proofs.Categories.{isNumber}
 use Rattle.number.specs.Meaning.{meaning}
 use Rattle.number.proofs.Parts.{parts, common-left, common-right}
 use Rattle.number.proofs.Order.{atMost-not-less}

@@ -8,7 +8,8 @@ use borrow.Author.Tests.{ne-eqb}
 use lib.Dec.{T, ltb, leb, ltb→lt, leb→le, lit<}
 use lib.Pow.{pow-pos}
 use lib.Ieee.Fits.{and-l, and-r}
-use Rattle.number.specs.Number.{Number, finite, infinite, nan, roundToNearestEven, productSign, times, atMost, isFinite, isNumber, isProbability, greatest, bounded}
+use Rattle.number.specs.Number.{Number, finite, infinite, nan, roundToNearestEven, productSign, times, atMost, isFinite, isProbability}
+use Rattle.number.proofs.Categories.{isNumber, greatest, bounded}
 use Rattle.number.proofs.Rounding.{round-mono, round-exact}
 use Rattle.number.proofs.Order.{Signed, AtMost, bottom, top, signed, to-cases, of-cases}
 use Rattle.number.proofs.Overflow.{overflow-number, overflow-finite, overflow-round-mono}

@@ -8,7 +8,8 @@ use native.Mathlib.Decide.{decLe}
 use native.Mathlib.Omega.{arith}
 use borrow.Author.Tests.{le-leb, lt-leb, lt-ltb, le-ltb}
 use lib.Dec.{T, leb, ltb, leb→le, ltb→lt, le→leb}
-use Rattle.number.specs.Number.{Number, finite, infinite, nan, positivePart, negativePart, less, atMost, isFinite, isNumber}
+use Rattle.number.specs.Number.{Number, finite, infinite, nan, positivePart, negativePart, less, atMost, isFinite}
+use Rattle.number.proofs.Categories.{isNumber}
 
 pub finite-number : (x : Number) → T (isFinite x) → T (isNumber x)
 finite-number (finite s a) t = tt

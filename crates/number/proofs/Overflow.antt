@@ -7,7 +7,8 @@ use native.Mathlib.Decide.{decLt}
 use native.Mathlib.Omega.{arith}
 use borrow.Author.Tests.{lt-ltb, le-ltb}
 use lib.Dec.{T, ltb, lit<}
-use Rattle.number.specs.Number.{finite, infinite, roundToNearestEven, overflow, positivePart, negativePart, isFinite, isNumber, greatest}
+use Rattle.number.specs.Number.{finite, infinite, roundToNearestEven, overflow, positivePart, negativePart, isFinite}
+use Rattle.number.proofs.Categories.{isNumber, greatest}
 use Rattle.number.proofs.Rounding.{round-mono, round-zero}
 use Rattle.number.proofs.Order.{Signed, AtMost, bottom, top, signed, left-number}
 

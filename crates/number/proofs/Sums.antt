@@ -1,14 +1,25 @@
 -- Weighted sums: where each value is no more than the other's, under the same probabilities, the sum is no more than the other's, if that is finite. It may be minus infinity.
 use mathlib.Core.Path.{_≡_, refl, ap, _∙_}
 use mathlib.Core.Bool.{true, false}
-use mathlib.Core.List.{List, [], _∷_, _++_}
+use mathlib.Core.List.{List, [], _∷_}
 use mathlib.Core.Option.{Option}
 use lib.Dec.{T}
-use Rattle.number.specs.Number.{Number, finite, infinite, nan, plus, times, atMost, isFinite, isProbability, Outcome, outcome, sumOn, weightedSum}
+use Rattle.number.specs.Number.{Number, finite, infinite, nan, plus, times, atMost, isFinite, isProbability}
 use Rattle.number.specs.Answers.{finiteOnly, plusProduct}
 use Rattle.number.proofs.Order.{finite-number}
-use Rattle.number.proofs.Addition.{plus-finite, plus-mono, plus-lower, plus-infinite}
+use Rattle.number.proofs.Addition.{plus-finite, plus-mono, plus-lower}
 use Rattle.number.proofs.Multiplication.{times-mono}
+
+-- ---- weighted sums: the first product, then each product added in turn
+pub data Outcome : Type 0 where
+  outcome : Number → Number → Outcome
+
+unfoldable pub sumOn : Number → List Outcome → Number
+sumOn acc [] = acc
+sumOn acc (outcome p x ∷ more) = sumOn (plus acc (times p x)) more
+
+unfoldable pub weightedSum : Outcome → List Outcome → Number
+weightedSum (outcome p x) more = sumOn (times p x) more
 
 -- the same probabilities, and each value no more than the one beside it
 pub data Under : List Outcome → List Outcome → Type 0 where
@@ -37,22 +48,10 @@ pub weightedSum-mono : (p x y : Number) {xs ys : List Outcome} → T (isProbabil
 unfolding weightedSum
 weightedSum-mono p x y q l u k = sumOn-mono (times p x) (times p y) u (times-mono p x y q l) k
 
--- one outcome more
-pub sumOn-snoc : (acc : Number) (xs : List Outcome) (p x : Number) → sumOn acc (xs ++ (outcome p x ∷ [])) ≡ plus (sumOn acc xs) (times p x)
-unfolding sumOn
-sumOn-snoc acc [] p x = refl
-sumOn-snoc acc (outcome q y ∷ xs) p x = sumOn-snoc (plus acc (times q y)) xs p x
-
 -- each product is finite
 abbrev pub AllFinite : List Outcome → Type 0
 AllFinite [] = Unit
 AllFinite (outcome p y ∷ ys) = T (isFinite (times p y)) × AllFinite ys
-
--- minus infinity, once reached, is kept
-pub sumOn-bottom : (ys : List Outcome) → AllFinite ys → sumOn (infinite true) ys ≡ infinite true
-unfolding sumOn
-sumOn-bottom [] h = refl
-sumOn-bottom (outcome p y ∷ ys) h = ap (λ (z : Number). sumOn z ys) (plus-infinite true (times p y) (h .0)) ∙ sumOn-bottom ys (h .1)
 
 -- ---- the code's running sum: out of range, once reached, is kept
 abbrev pub plusProducts : Option Number → List Outcome → Option Number

@@ -1,9 +1,6 @@
 -- What the functions over f64 answer, in the words of Number.antt. Definitions only.
-use mathlib.Core.Path.{_≡_}
-use mathlib.Core.Bool.{Bool, cond}
+use mathlib.Core.Bool.{cond}
 use mathlib.Core.Option.{Option, none, some}
-use Prim.Native.Nat.{ℕ}
-use lib.Ieee.{Float}
 use Rattle.number.specs.Number.{Number, isFinite, plus}
 use Rattle.number.specs.Meaning.{meaning}
 use Rattle.number.specs.declared.Utility.{Utility}

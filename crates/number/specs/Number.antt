@@ -2,7 +2,6 @@
 -- Rounding is IEEE 754-2019 section 4.3.1, roundTiesToEven, with the overflow of 7.4 and the zero signs of 6.3.
 use Prim.Native.Nat.{ℕ, zero, suc, _+_, _-_, _*_, _/_, _%_, _^_, compare, Ordering, Ordering·lt, Ordering·eq, Ordering·gt}
 use mathlib.Core.Bool.{Bool, true, false, not, _&&_, _||_, Bool·beq, cond}
-use mathlib.Core.List.{List, [], _∷_}
 use lib.Dec.{leb, ltb, eqb}
 
 -- A finite number is a sign, minus where it is true, and so many parts of 2 ^ -1074, the least number above zero. A zero keeps its sign.
@@ -101,25 +100,11 @@ isFinite (finite s a) = true
 isFinite (infinite s) = false
 isFinite nan = false
 
-abbrev pub isNumber : Number → Bool
-isNumber (finite s a) = true
-isNumber (infinite s) = true
-isNumber nan = false
-
 -- above 0 and at most 1, which is 2 ^ 1074 parts
 abbrev pub isProbability : Number → Bool
 isProbability (finite s a) = not s && (ltb 0 a && leb a (2 ^ 1074))
 isProbability (infinite s) = false
 isProbability nan = false
-
--- the greatest finite f64, in parts, and that a number is no further from zero
-abbrev pub greatest : ℕ
-greatest = (2 ^ 53 - 1) * 2 ^ 2045
-
-abbrev pub bounded : Number → Bool
-bounded (finite s a) = leb a greatest
-bounded (infinite s) = true
-bounded nan = true
 
 -- ---- bit patterns (IEEE 754-2019 section 3.4): the sign, 11 digits of the exponent's field e, 52 digits t of the trailing significand
 unfoldable pub fromFields : Bool → ℕ → ℕ → Number
@@ -134,14 +119,3 @@ unfoldable pub toBits : Number → ℕ
 toBits (finite s n) = let k = ulpExponent n in cond s (2 ^ 63) 0 + k * 2 ^ 52 + n / 2 ^ k
 toBits (infinite s) = cond s (2 ^ 63) 0 + 2047 * 2 ^ 52
 toBits nan = 2047 * 2 ^ 52 + 2 ^ 51
-
--- ---- weighted sums: the first product, then each product added in turn
-pub data Outcome : Type 0 where
-  outcome : Number → Number → Outcome
-
-unfoldable pub sumOn : Number → List Outcome → Number
-sumOn acc [] = acc
-sumOn acc (outcome p x ∷ more) = sumOn (plus acc (times p x)) more
-
-unfoldable pub weightedSum : Outcome → List Outcome → Number
-weightedSum (outcome p x) more = sumOn (times p x) more

@@ -1,7 +1,6 @@
 // Payoffs, probabilities and weighted sums in f64. Each operation is the one that
 // specs/Number.antt states over whole numbers.
 ghost use mathlib.Core.Path.{_≡_};
-ghost use mathlib.Core.Option.{some};
 ghost use lib.Dec.{T};
 ghost use Rattle.number.specs.Number.{plus, times, less, isFinite, isProbability, fromBits, toBits};
 ghost use Rattle.number.specs.Meaning.{meaning};
@@ -23,16 +22,6 @@ impl Utility {
             Weighted::Finite(x) => UtilityResult::Finite(Utility(x)),
             Weighted::OutOfRange => UtilityResult::NonFinite,
         }
-    }
-
-    // The payoff of a bit pattern.
-    pub fn from_bits(bits: u64) -> UtilityResult
-        ensures { λ r. ⌜ utilityOf r ≡ finiteOnly (fromBits bits) ⌝ }
-    {
-        if (bits >> 52) & 0x7ff == 0x7ff {
-            return UtilityResult::NonFinite;
-        }
-        UtilityResult::Finite(Utility(f64::from_bits(bits)))
     }
 
     // The payoff of a number that is known to be finite.

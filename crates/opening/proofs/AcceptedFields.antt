@@ -1,18 +1,18 @@
 -- What the fields of a row are known to be in a sheet that opens, section by section.
-use Prim.Native.Nat.{ℕ, _+_, _-_, _≤_, _<_}
+use Prim.Native.Nat.{ℕ, _+_, _≤_, _<_}
 use mathlib.Core.Path.{_≡_, refl}
 use mathlib.Core.Bool.{Bool, true, false, _||_, true≢false}
 use mathlib.Core.List.{List}
 use mathlib.Core.Option.{none}
 use native.Mathlib.Omega.{arith}
-use borrow.Author.Tests.{ltb-true, ltb-false, lt-ltb, eqb-true, eqb-false, ne-eqb, not-false}
+use borrow.Author.Tests.{ltb-true, ltb-false, eqb-false, not-false}
 use lib.Dec.{T, eqb}
 use lib.ListN.{length, getD}
 use Rattle.number.specs.Number.{Number, finite, infinite, nan, isFinite, isProbability, fromBits}
 use Rattle.answer.proofs.FaultLaws.{▹-left, ▹-right, given-none}
 use Rattle.layout.specs.Layout.{section, rowCount, field, field64}
 use Rattle.layout.proofs.LayoutLaws.{text-rows}
-use Rattle.opening.specs.Faults.{noPlayer, nodeFault, labelFault, chanceFault, terminalFault, payoffFault, setFault, labelEnd, previousEnd, labelRowFault, textFault, fieldsFault}
+use Rattle.opening.specs.Faults.{noPlayer, nodeFault, labelFault, chanceFault, terminalFault, payoffFault, setFault, labelEnd, labelRowFault, textFault, fieldsFault}
 use Rattle.opening.specs.SheetFault.{sheetFault}
 use Rattle.opening.proofs.AcceptedRows.{fields-ok}
 
@@ -48,13 +48,6 @@ module _ (s : List ℕ) (ok : sheetFault s ≡ none) where
     pub node-player : field s 0 i 8 ≡ noPlayer → ⊥
     unfolding nodeFault
     node-player = eqb-false _ _ (given-none _ _ (▹-right _ _ (▹-right _ _ node-passed)))
-
-    -- only a decision has a player
-    pub no-mover : 0 < field s 0 i 4 → field s 0 i 8 ≡ 0
-    unfolding nodeFault
-    no-mover l =
-        let test = given-none _ _ (▹-left _ _ (▹-right _ _ node-passed)) in
-        eqb-true _ _ (not-false _ (rw (lt-ltb 0 _ l) at test))
 
   -- ---- section 2, actions
   pub action-label : (i : ℕ) → i < rowCount s 2 → (field s 2 i 4 < rowCount s 8) × (0 < field s 8 (field s 2 i 4) 4)
@@ -114,11 +107,6 @@ module _ (s : List ℕ) (ok : sheetFault s ≡ none) where
     unfolding fieldsFault
     label-row-passed = fields-ok s ok 8 (omega arith) i row
 
-    -- at or after the previous label's end
-    pub label-start : previousEnd s i ≤ field s 8 i 0
-    unfolding labelRowFault
-    label-start = ltb-false _ _ (given-none _ _ (▹-left _ _ label-row-passed))
-
     pub label-end : labelEnd s i ≤ rowCount s 9
     unfolding labelRowFault
     label-end = ltb-false _ _ (given-none _ _ (▹-right _ _ label-row-passed))
@@ -126,13 +114,6 @@ module _ (s : List ℕ) (ok : sheetFault s ≡ none) where
     pub label-in-text : field s 8 i 0 + field s 8 i 4 ≤ length (section s 9)
     unfolding labelEnd
     label-in-text = rw (← text-rows s) label-end
-
-  pub next-label : (i : ℕ) → i + 1 < rowCount s 8 → labelEnd s i ≤ field s 8 (i + 1) 0
-  unfolding previousEnd
-  next-label i row =
-      let back : i + 1 - 1 ≡ i = omega arith in
-      let later : eqb (i + 1) 0 ≡ false = ne-eqb (i + 1) 0 (λ e. omega arith) in
-      simp (later, back) at (label-start (i + 1) row)
 
   -- ---- section 9, text
   pub text-printable : (i : ℕ) → i < rowCount s 9 → (0x20 ≤ getD (section s 9) i 0) × (getD (section s 9) i 0 ≤ 0x7E)

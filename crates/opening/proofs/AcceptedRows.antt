@@ -1,6 +1,6 @@
 -- In a sheet that opens the layout and every row pass, and no entity stands twice in a section.
 use Prim.Native.Nat.{ℕ, _+_, _%_, _<_}
-use mathlib.Core.Path.{_≡_, refl, subst}
+use mathlib.Core.Path.{_≡_, refl, sym, _∙_, subst}
 use mathlib.Core.Bool.{Bool, true, false, _&&_, false≢true}
 use mathlib.Core.List.{List}
 use mathlib.Core.Option.{none}
@@ -12,7 +12,8 @@ use Rattle.rows.specs.Rows.{Distinct}
 use Rattle.rows.proofs.RowLaws.{no-repeats}
 use Rattle.layout.specs.Layout.{width, layoutFault, section, rowCount, field}
 use Rattle.opening.specs.Faults.{fieldsFault}
-use Rattle.opening.specs.SheetFault.{hasEntity, rowFault, totalFault, rowsFault, sheetFault, RowOf}
+use Rattle.opening.specs.SheetFault.{hasEntity, rowFault, totalFault, rowsFault, sheetFault}
+use Rattle.opening.proofs.CheckOrder.{in-turn}
 
 pub left-true : (a b : Bool) → a && b ≡ true → a ≡ true
 left-true true b e = refl
@@ -33,7 +34,7 @@ module _ (s : List ℕ) (ok : sheetFault s ≡ none) where
   section-ok k l =
       let back : ((k + 2) % 10 + 8) % 10 ≡ k = omega arith in
       subst (λ (m : ℕ). rowsFault s m ≡ none) back
-      (first-at (λ j. rowsFault s ((j + 8) % 10)) 10 ((k + 2) % 10) (▹-right _ _ ok) (omega arith))
+      (first-at (λ j. rowsFault s ((j + 8) % 10)) 10 ((k + 2) % 10) (sym (in-turn (rowsFault s)) ∙ ▹-right _ _ ok) (omega arith))
 
   pub total-ok : totalFault s ≡ none
   unfolding rowsFault
@@ -47,9 +48,6 @@ module _ (s : List ℕ) (ok : sheetFault s ≡ none) where
   pub fields-ok : (k : ℕ) → k < 10 → (i : ℕ) → i < rowCount s k → fieldsFault s k i ≡ none
   unfolding rowFault
   fields-ok k l i h = ▹-right _ _ (row-ok k l i h)
-
-  pub row-of : (k : ℕ) → k < 10 → (i : ℕ) → i < rowCount s k → RowOf s k i
-  row-of k l i h = record { section-number = l; laid-out = layout-ok; row = h }
 
   -- no entity stands twice
   pub not-repeated : (k : ℕ) → hasEntity k ≡ true → Distinct (width s k) (section s k) (rowCount s k)

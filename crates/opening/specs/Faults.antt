@@ -1,7 +1,7 @@
 -- The faults of one row of each section, but for a repeated entity: in each the order of the tests is 01's. Definitions only.
 use Prim.Native.Nat.{ℕ, _+_, _-_}
 use mathlib.Core.List.{List, [], _∷_}
-use mathlib.Core.Bool.{Bool, not, cond, _&&_, _||_}
+use mathlib.Core.Bool.{not, cond, _&&_, _||_}
 use mathlib.Core.Option.{none}
 use lib.ListN.{getD}
 use lib.Dec.{ltb, eqb}

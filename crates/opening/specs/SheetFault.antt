@@ -1,11 +1,11 @@
 -- The first fault of a sheet, refusals 1 to 10, in 01's order. Definitions only.
-use Prim.Native.Nat.{ℕ, zero, suc, _+_, _%_, _≤_, _<_}
+use Prim.Native.Nat.{ℕ, zero, suc, _+_, _≤_, _<_}
 use mathlib.Core.Path.{_≡_}
-use mathlib.Core.List.{List}
+use mathlib.Core.List.{List, [], _∷_}
 use mathlib.Core.Bool.{Bool, true, false, not, cond, _&&_}
 use mathlib.Core.Option.{none}
 use lib.Dec.{ltb, eqb}
-use Rattle.answer.specs.Fault.{Fault, first, given, _▹_}
+use Rattle.answer.specs.Fault.{Fault, first, firstIn, given, _▹_}
 use Rattle.answer.specs.Refusals.{badRow}
 use Rattle.layout.specs.Layout.{width, layoutFault, section, rowCount, field}
 use Rattle.rows.specs.Rows.{repeated}
@@ -32,9 +32,13 @@ totalFault s = given (not (eqb (payoffStart s (rowCount s 5)) (rowCount s 6))) (
 unfoldable pub rowsFault : List ℕ → ℕ → Fault
 rowsFault s k = first (rowCount s k) (rowFault s k) ▹ cond (eqb k 5) (totalFault s) none
 
--- the layout, then the rows of sections 8, 9, 0 to 7
+-- labels and text come before the sections that use them
+abbrev pub checkOrder : List ℕ
+checkOrder = 8 ∷ 9 ∷ 0 ∷ 1 ∷ 2 ∷ 3 ∷ 4 ∷ 5 ∷ 6 ∷ 7 ∷ []
+
+-- the layout, then the rows
 unfoldable pub sheetFault : List ℕ → Fault
-sheetFault s = layoutFault s ▹ first 10 (λ j. rowsFault s ((j + 8) % 10))
+sheetFault s = layoutFault s ▹ firstIn (rowsFault s) checkOrder
 
 -- ---- words of the contracts
 

@@ -1,11 +1,11 @@
 // The rows of a sheet: what opening it checks after its layout.
 ghost use mathlib.Core.Path.{_≡_};
 ghost use mathlib.Core.Option.{none};
-ghost use Prim.Native.Nat.{_+_, _%_, _≤_, _<_};
-ghost use Rattle.answer.specs.Fault.{faultOf, first};
-ghost use Rattle.layout.specs.Layout.{width, layoutFault, section, rowCount};
+ghost use Prim.Native.Nat.{_+_, _≤_, _<_};
+ghost use Rattle.answer.specs.Fault.{faultOf, first, firstIn};
+ghost use Rattle.layout.specs.Layout.{width, layoutFault, rowCount};
 ghost use Rattle.opening.specs.Faults.{nodeFault, labelFault, chanceFault, terminalFault, payoffFault, setFault, labelEnd, previousEnd, labelRowFault, textFault, fieldsFault};
-ghost use Rattle.opening.specs.SheetFault.{hasEntity, rowFault, payoffStart, totalFault, rowsFault, sheetFault, RowOf, RowsOf, Unrepeated};
+ghost use Rattle.opening.specs.SheetFault.{hasEntity, rowFault, payoffStart, totalFault, rowsFault, checkOrder, sheetFault, RowOf, RowsOf, Unrepeated};
 use answer::Check;
 use answer::refuse;
 use layout::row_count;
@@ -265,7 +265,7 @@ fn check_section(sheet: &[u8], k: usize) -> Check
 
 fn check_sections(sheet: &[u8]) -> Check
     requires { ⌜ layoutFault (now sheet) ≡ none ⌝ }
-    ensures { λ r. ⌜ faultOf r ≡ first 10 (λ j. rowsFault (now (sheet .entry)) ((j + 8) % 10)) ⌝ }
+    ensures { λ r. ⌜ faultOf r ≡ firstIn (rowsFault (now (sheet .entry))) checkOrder ⌝ }
 {
     let mut j = 0;
     while j < 10 {

@@ -1,8 +1,8 @@
 -- A node that is looked up: its row and its kind, and what is known of it where its edges have no fault.
 use Prim.Native.Nat.{ℕ, suc, _+_, _-_, _≤_, _<_}
-use mathlib.Core.Path.{_≡_, refl, sym, ap, _∙_}
+use mathlib.Core.Path.{_≡_, sym, ap, _∙_}
 use mathlib.Core.List.{List, [], _∷_}
-use mathlib.Core.Option.{none, some}
+use mathlib.Core.Option.{some}
 use native.Mathlib.Omega.{arith}
 use Rattle.answer.specs.declared.Refusal.{Refusal}
 use Rattle.answer.specs.declared.Check.{Check}
@@ -10,26 +10,20 @@ use Rattle.answer.specs.declared.Check.the-variants.{Passed, Refused}
 use Rattle.answer.specs.Fault.{faultOf}
 use Rattle.answer.specs.Answer.{refused, faultIn}
 use Rattle.answer.specs.Refusals.{missingTerminalUtility}
-use Rattle.rows.specs.Rows.{findRow, foundAt}
-use Rattle.rows.specs.declared.Found.{Found as RowFound}
-use Rattle.rows.specs.declared.Found.the-variants.{At, Nothing}
-use Rattle.rows.proofs.RowLaws.{found-in}
 use Rattle.rows.proofs.StoreLaws.{length-rows}
-use Rattle.layout.specs.Layout.{width, section, rowCount, field}
-use Rattle.lookup.proofs.Lookup.{lookup-found, lookup-missing}
 use Rattle.game.specs.declared.Kind.{Kind}
 use Rattle.game.specs.declared.Node.{Node}
-use Rattle.game.specs.Game.{nodeOf, kindOf, kindIn, terminalOf}
+use Rattle.game.specs.Game.{kindOf, terminalOf}
 use Rattle.game.specs.Edges.{outgoingActionEdges}
 use Rattle.sheet.specs.Meaning.{nodeRow, payoffRow, gameOf}
-use Rattle.sheet.specs.Found.{terminalIn, terminalFound, InSheet}
+use Rattle.sheet.specs.Found.{NodeAt, terminalIn, terminalFound, InSheet}
 use Rattle.sheet.specs.declared.Terminal.{Terminal}
 use Rattle.sheet.specs.declared.TerminalFound.{TerminalFound}
 use Rattle.sheet.specs.declared.TerminalFound.the-variants.{Found, Missing}
 use Rattle.edges.proofs.FaultWalk.{checked-refused, checked-passed}
 use Rattle.game.specs.declared.Kind.the-variants as Kinds
 use Rattle.path_counts.specs.Paths.{paths}
-use Rattle.path_counts.specs.Counts.{Right, RowOf, Continues, Inner}
+use Rattle.path_counts.specs.Counts.{Right, Continues, Inner}
 use Rattle.path_counts.proofs.PathLaws.{terminal-missing, terminal-found}
 use Rattle.path_counts.proofs.CountLaws.{counts-one}
 
@@ -37,23 +31,9 @@ use Rattle.path_counts.proofs.CountLaws.{counts-one}
 pub above-zero : {A : Type 0} (f : ℕ → A) (left : ℕ) → 0 < left → f left ≡ f (suc (left - 1))
 above-zero f left h = let p : left ≡ suc (left - 1) = omega arith in ap f p
 
-module _ (s : List ℕ) (e : ℕ) (f : RowFound) (found : foundAt f ≡ findRow (width s 0) (section s 0) (rowCount s 0) e) where
-  pub found-row : (i : ℕ) → f ≡ At i → RowOf s e i
-  unfolding field
-  found-row i p =
-      let h = found-in (width s 0) (section s 0) (rowCount s 0) e i (sym found ∙ ap foundAt p) in
-      record { row = h .0; entity = h .1 }
-
-  pub found-kind : (i : ℕ) → f ≡ At i → (n : Node) → n ≡ nodeRow s i → (k : Kind) → n .kind ≡ k → kindOf (gameOf s) e ≡ some k
-  unfolding kindOf nodeOf gameOf nodeRow
-  found-kind i p n q k h =
-      ap kindIn (lookup-found s 0 e f found (nodeRow s) (λ (x : Node). x .entity) (λ j. refl) i p)
-      ∙ ap (λ (x : Node). some (x .kind)) (sym q)
-      ∙ ap some h
-
-  pub missing-kind : f ≡ Nothing → kindOf (gameOf s) e ≡ none
-  unfolding kindOf nodeOf gameOf nodeRow
-  missing-kind p = ap kindIn (lookup-missing s 0 e f found (nodeRow s) (λ (n : Node). n .entity) (λ j. refl) p)
+-- a node's kind, once its row is read
+pub read-kind : {s : List ℕ} {e i : ℕ} → NodeAt s i e → (n : Node) → n ≡ nodeRow s i → (k : Kind) → n .kind ≡ k → kindOf (gameOf s) e ≡ some k
+read-kind own n q k h = own .kind ∙ ap (λ (x : Node). some (x .kind)) (sym q) ∙ ap some h
 
 -- a terminal node that is looked up
 module _ (s : List ℕ) (e : ℕ) (kind : kindOf (gameOf s) e ≡ some Kinds.Terminal) (f : TerminalFound) (found : (terminalFound s f ≡ terminalOf (gameOf s) e) × InSheet s f) where

@@ -16,10 +16,11 @@ use Rattle.graph_relations.specs.RelationRows.{childRow}
 use Rattle.game.specs.declared.ActionEdge.{ActionEdge}
 use Rattle.game.specs.Edges.{actionEdgeIn}
 use Rattle.sheet.specs.Meaning.{gameOf}
+use Rattle.sheet.specs.Found.{NodeAt}
 use Rattle.path_counts.specs.declared.Visit.{Visit}
 use Rattle.path_counts.specs.declared.Tally.{Tally}
 use Rattle.path_counts.specs.Paths.{Path, behind, along, paths}
-use Rattle.path_counts.specs.Counts.{Counts, Right, Memo, Inner, RowOf, CountedIn, Visits, added, keptIn, keptAs}
+use Rattle.path_counts.specs.Counts.{Counts, Right, Memo, Inner, CountedIn, Visits, added, keptIn, keptAs}
 use Rattle.path_counts.proofs.PathLaws.{along-nil, along-stop, along-next, no-edges, some-edges, joined}
 use Rattle.path_counts.proofs.CountLaws.{counts-none, counts-added}
 use Rattle.path_counts.proofs.MemoLaws.{kept-visits}
@@ -99,7 +100,7 @@ module _ {s : List ℕ} {e left n : ℕ} where
 
       pub goes : {m : List (List ℕ)} {at : ℕ} → Memo s m → CountedIn s m (left - 1) (x .target) at → Following s e left n (i + 1) (added t (getD m at []))
       goes {m} {at} memo found =
-          let c : Right (gameOf s) (field s 0 at 0) (getD m at []) = memo .right at (found .own .row) (found .counted) in
+          let c : Right (gameOf s) (field s 0 at 0) (getD m at []) = memo .right at (found .own .here) (found .counted) in
           met (w .ahead) l x step
           (λ zs p a.
           record {
@@ -140,7 +141,7 @@ module _ {s : List ℕ} {e left n : ℕ} where
           }
 
       -- the node's counts, kept in its row
-      pub kept : {m m′ : List (List ℕ)} {row : ℕ} {v : Visit} → Memo s m → RowOf s e row → left ≤ 64
+      pub kept : {m m′ : List (List ℕ)} {row : ℕ} {v : Visit} → Memo s m → NodeAt s row e → left ≤ 64
           → (m′ ≡ keptIn m row t) × (v ≡ keptAs e row t) → Visits s m′ left e v
       kept memo own low (p, q) =
           ⊎-elim

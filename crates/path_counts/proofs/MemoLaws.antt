@@ -13,13 +13,14 @@ use Rattle.answer.specs.declared.Refusal.{Refusal}
 use Rattle.answer.specs.Answer.{refused, done}
 use Rattle.layout.specs.Layout.{rowCount, field}
 use Rattle.sheet.specs.Meaning.{gameOf, Opens}
+use Rattle.sheet.specs.Found.{NodeAt}
 use Rattle.sheet.proofs.OpeningLaws.{few-nodes}
 use Rattle.path_counts.specs.declared.Visit.{Visit}
 use Rattle.path_counts.specs.declared.Visit.the-variants.{Counted, Refused}
 use Rattle.path_counts.specs.declared.Entered.{Entered}
 use Rattle.path_counts.specs.declared.Entered.the-variants.{Done}
 use Rattle.path_counts.specs.Paths.{paths}
-use Rattle.path_counts.specs.Counts.{height, Right, Memo, known, RowOf, CountedIn, Visits, Inner, Enters, wordCount, sizeFrom}
+use Rattle.path_counts.specs.Counts.{height, Right, Memo, known, CountedIn, Visits, Inner, Enters, wordCount, sizeFrom}
 use Rattle.path_counts.specs.declared.Entered.the-variants as Entering
 
 pub empty-memo : (s : List ℕ) → Opens s → Memo s (replicate 1024 (replicate 3 0))
@@ -38,7 +39,7 @@ module _ {s : List ℕ} {m : List (List ℕ)} {left e : ℕ} {v : Entered} (ente
   pub entered-done : (w : Visit) → v ≡ Done w → Visits s m left e w
   entered-done w p = rw p at enters
 
-  pub entered-inner : (i : ℕ) → v ≡ Entering.Inner i → Memo s m × (0 < left) × RowOf s e i × Inner s e
+  pub entered-inner : (i : ℕ) → v ≡ Entering.Inner i → Memo s m × (0 < left) × NodeAt s i e × Inner s e
   entered-inner i p = rw p at enters
 
 -- ---- a visit
@@ -58,7 +59,7 @@ module _ {s : List ℕ} {m : List (List ℕ)} {left e : ℕ} {v : Visit} (visits
   unfolding sizeFrom
   size-counted i p =
       let found = visited-counted i p in
-      let a = visits .memo .right i (found .own .row) (found .counted) in
+      let a = visits .memo .right i (found .own .here) (found .counted) in
       rw (← found .own .entity, a .right left (found .near)) (ap done (a .counts .as-words))
 
 pub refused-visits : {s : List ℕ} {m : List (List ℕ)} {left e : ℕ} {v : Visit} {r : Refusal} → Memo s m → v ≡ Refused r → paths (gameOf s) left e ≡ refused r → Visits s m left e v
@@ -75,9 +76,9 @@ both true true h = (refl, refl)
 both true false h = (refl, sym h)
 both false b h = (sym h, absurd (true≢false h))
 
-module _ {s : List ℕ} {m : List (List ℕ)} (memo : Memo s m) {e i : ℕ} (own : RowOf s e i) where
+module _ {s : List ℕ} {m : List (List ℕ)} (memo : Memo s m) {e i : ℕ} (own : NodeAt s i e) where
   pub row-within : i < length m
-  row-within = omega (arith, own .row, memo .within)
+  row-within = omega (arith, own .here, memo .within)
 
   -- what is known is right
   pub known-visits : (left : ℕ) → true ≡ known (getD m i []) left → Visits s m left e (Counted i)

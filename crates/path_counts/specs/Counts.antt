@@ -12,6 +12,7 @@ use Rattle.game.specs.declared.ActionEdge.{ActionEdge}
 use Rattle.game.specs.Game.{Game}
 use Rattle.game.specs.Edges.{outgoingActionEdges}
 use Rattle.sheet.specs.Meaning.{gameOf}
+use Rattle.sheet.specs.Found.{NodeAt}
 use Rattle.path_counts.specs.declared.Visit.{Visit}
 use Rattle.path_counts.specs.declared.Entered.{Entered}
 use Rattle.path_counts.specs.declared.Size.{Size}
@@ -59,14 +60,9 @@ known row left = ltb 0 (height row) && leb (height row) left
 
 -- ---- a visit of a node
 
--- node row i is that of the node e
-pub record RowOf (s : List ℕ) (e i : ℕ) : Type 0 where
-  pub row : i < rowCount s 0
-  pub entity : field s 0 i 0 ≡ e
-
 -- row i counts the node e, and holds with so much depth left
 pub record CountedIn (s : List ℕ) (m : List (List ℕ)) (left e i : ℕ) : Type 0 where
-  pub own : RowOf s e i
+  pub own : NodeAt s i e
   pub counted : 0 < height (getD m i [])
   pub near : height (getD m i []) ≤ left
 
@@ -92,7 +88,7 @@ pub record Inner (s : List ℕ) (e : ℕ) : Type 0 where
 -- the node e is entered: it is visited, or its edges are left to follow
 abbrev pub Enters : List ℕ → List (List ℕ) → ℕ → ℕ → Entered → Type 0
 Enters s m left e (Entering.Done v) = Visits s m left e v
-Enters s m left e (Entering.Inner i) = Memo s m × (0 < left) × RowOf s e i × Inner s e
+Enters s m left e (Entering.Inner i) = Memo s m × (0 < left) × NodeAt s i e × Inner s e
 
 -- ---- the edges of a node
 

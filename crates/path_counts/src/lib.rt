@@ -9,7 +9,8 @@ ghost use Rattle.answer.specs.Refusals.{refusal};
 ghost use Rattle.game.specs.declared.Kind.{Kind};
 ghost use Rattle.game.specs.Game.{kindOf};
 ghost use Rattle.sheet.specs.Meaning.{gameOf};
-ghost use Rattle.path_counts.specs.Counts.{cap, height, pathCount, wordCount, Memo, known, RowOf, Visits, Continues, Enters, Capped, added, keptIn, keptAs, sized, sizeFrom};
+ghost use Rattle.sheet.specs.Found.{NodeAt};
+ghost use Rattle.path_counts.specs.Counts.{cap, height, pathCount, wordCount, Memo, known, Visits, Continues, Enters, Capped, added, keptIn, keptAs, sized, sizeFrom};
 use answer::Check;
 use answer::Refusal;
 use edges::ActionStep;
@@ -80,7 +81,7 @@ fn count_terminal(
     entity: u32,
     row: usize,
 ) -> Visit
-    requires { ⌜ Noted (now sheet) (now hints) × Memo (now sheet) (now memo) × RowOf (now sheet) entity row × (kindOf (gameOf (now sheet)) entity ≡ some Kind.Terminal) ⌝ }
+    requires { ⌜ Noted (now sheet) (now hints) × Memo (now sheet) (now memo) × NodeAt (now sheet) row entity × (kindOf (gameOf (now sheet)) entity ≡ some Kind.Terminal) ⌝ }
     ensures { λ v. ⌜ ((left : ℕ) → 0 < left → Visits (now (sheet .entry)) (now (memo .exit)) left entity v) ⌝ }
 {
     let TerminalFound::Found(t) = sheet::find_terminal(sheet, hints, entity) else {
@@ -93,7 +94,7 @@ fn count_terminal(
 
 // A node with edges: the faults among them.
 fn enter_inner(sheet: &[u8], hints: &[u16], entity: u32, row: usize) -> Entered
-    requires { ⌜ Noted (now sheet) (now hints) × RowOf (now sheet) entity row × Continues (gameOf (now sheet)) entity ⌝ }
+    requires { ⌜ Noted (now sheet) (now hints) × NodeAt (now sheet) row entity × Continues (gameOf (now sheet)) entity ⌝ }
     ensures { λ r. ⌜ ((m : List (List ℕ)) (left : ℕ) → Memo (now (sheet .entry)) m → 0 < left → Enters (now (sheet .entry)) m left entity r) ⌝ }
 {
     match edges::outgoing_action_edges(sheet, hints, entity) {

@@ -11,7 +11,7 @@ use lib.Dec.{eqb, ltb}
 use lib.ListN.{getD, set, replicate, length-set, length-replicate, getD-replicate}
 use lib.Seq.{getD-set-same, getD-set-other}
 use Rattle.rows.specs.Rows.{entityAt, repeated}
-use Rattle.repeats.specs.Repeats.{slotAt, LastIn, Slotted}
+use Rattle.repeats.specs.Repeats.{slotOf, slotAt, LastIn, Slotted}
 use Rattle.repeats.proofs.BoundLaws.{new-row}
 
 module _ (w : ℕ) (rows : List ℕ) where
@@ -49,7 +49,7 @@ module _ (w : ℕ) (rows : List ℕ) where
   same-slot i j e = rw e
 
   pub slot-bound : (i : ℕ) → slotAt w rows i < 1024
-  unfolding slotAt
+  unfolding slotAt slotOf
   slot-bound i = omega arith
 
   -- ---- row n becomes the last of its slot

@@ -1,5 +1,5 @@
 -- The first row that names an earlier row's entity, and what is kept of the rows so far to tell it. Definitions only.
-use Prim.Native.Nat.{ℕ, _-_, _%_, _≤_, _<_}
+use Prim.Native.Nat.{ℕ, _+_, _-_, _/_, _%_, _≤_, _<_}
 use mathlib.Core.Path.{_≡_}
 use mathlib.Core.Bool.{true}
 use mathlib.Core.List.{List}
@@ -19,9 +19,13 @@ pub record FirstRepeated (w : ℕ) (rows : List ℕ) (r : ℕ) : Type 0 where
 abbrev pub Within : ℕ → List ℕ → ℕ → Bounds → Type 0
 Within w rows n b = (j : ℕ) → j < n → (b .bottom ≤ entityAt w rows j) × (entityAt w rows j < b .top)
 
+-- the slot of an entity: its digits to the base 1,024, added up, so that entities one after the other or a power of two apart have slots of their own
+unfoldable pub slotOf : ℕ → ℕ
+slotOf e = (e + e / 1024 + e / 1048576) % 1024
+
 -- the slot of row i
 unfoldable pub slotAt : ℕ → List ℕ → ℕ → ℕ
-slotAt w rows i = entityAt w rows i % 1024
+slotAt w rows i = slotOf (entityAt w rows i)
 
 -- p counts from 1 the last of the first n rows in the slot, and is 0 where there is none
 pub record LastIn (w : ℕ) (rows : List ℕ) (slot n p : ℕ) : Type 0 where

@@ -4,7 +4,7 @@ ghost use mathlib.Core.Path.{_≡_};
 ghost use mathlib.Core.Bool.{true, false};
 ghost use Prim.Native.Nat.{_+_, _≤_, _<_};
 ghost use Rattle.rows.specs.Rows.{rowsIn, findRow, isSome, repeated, Distinct};
-ghost use Rattle.repeats.specs.Repeats.{Within, Slotted, FirstRepeated};
+ghost use Rattle.repeats.specs.Repeats.{Within, slotOf, Slotted, FirstRepeated};
 use rows::Found;
 use rows::field;
 
@@ -87,6 +87,13 @@ fn is_named(rows: &[u8], w: usize, n: usize, entity: u32) -> bool
     }
 }
 
+fn slot(entity: u32) -> usize
+    ensures { λ r. ⌜ (r ≡ slotOf entity) × (r < 1024) ⌝ }
+{
+    let e = entity as usize;
+    (e + e / 1024 + e / 1048576) % 1024
+}
+
 // Whether an earlier row names row i's entity: only those in its slot can, and they are met from the last to the first. A slot of many
 // rows is left to a search through all earlier rows, which goes faster from row to row.
 fn is_among(rows: &[u8], w: usize, i: usize, lasts: &[u16], befores: &[u16]) -> bool
@@ -94,7 +101,7 @@ fn is_among(rows: &[u8], w: usize, i: usize, lasts: &[u16], befores: &[u16]) -> 
     ensures { λ r. ⌜ r ≡ repeated w (now (rows .entry)) i ⌝ }
 {
     let e = field(rows, w, i, 0);
-    let mut p = lasts[(e % 1024) as usize] as usize;
+    let mut p = lasts[slot(e)] as usize;
     let mut met = 0usize;
     while 0 < p {
         if field(rows, w, p - 1, 0) == e {
@@ -114,9 +121,9 @@ fn note_row(rows: &[u8], w: usize, i: usize, lasts: &mut [u16], befores: &mut [u
     requires { ⌜ (i < rowsIn w (now rows)) × (i < 1024) × (4 ≤ w) × Slotted w (now rows) i (now lasts) (now befores) ⌝ }
     ensures { λ _. ⌜ Slotted w (now (rows .entry)) (i + 1) (now (lasts .exit)) (now (befores .exit)) ⌝ }
 {
-    let slot = (field(rows, w, i, 0) % 1024) as usize;
-    befores[i] = lasts[slot];
-    lasts[slot] = (i + 1) as u16;
+    let at = slot(field(rows, w, i, 0));
+    befores[i] = lasts[at];
+    lasts[at] = (i + 1) as u16;
 }
 
 // The first row that names an earlier row's entity, or n: each row is compared with the earlier ones in its slot.

@@ -136,9 +136,9 @@ fn put_answer(out: &mut [u8], sheet: &[u8], solved: Solved) -> usize
     put_payoffs(out, at, payoffs, solved.payoff_count)
 }
 
-// The text for any bytes: how long it is, and the buffer begins with it.
+// The text for any bytes at the buffer's front, and how long it is; what stood after it stays.
 pub fn report(sheet: &[u8], out: &mut [u8; 280000]) -> usize
-    ensures { λ r. ⌜ (r ≡ length (printed (now (sheet .entry)))) × (take r (now (out .exit)) ≡ printed (now (sheet .entry))) ⌝ }
+    ensures { λ r. ⌜ Writes (now (out .entry)) 0 (printed (now (sheet .entry))) (now (out .exit)) r ⌝ }
 {
     let opened = sheet::open(sheet);
     if let Check::Refused(r) = opened {

@@ -1,10 +1,11 @@
 -- Rows of any width: a row lies within the bytes, what a search by entity has found so far, and entities that do not repeat.
 use Prim.Native.Nat.{ℕ, _+_, _*_, _/_, _≤_, _<_}
-use mathlib.Core.Path.{_≡_, refl, sym}
+use mathlib.Core.Path.{_≡_, refl, sym, _∙_}
 use mathlib.Core.List.{List}
 use mathlib.Core.Bool.{false, true≢false}
 use mathlib.Core.Option.{Option, none, some}
-use native.Mathlib.Nat.{le-div-iff-mul-le, mul-le-mul-left, mul-div-le, mul-suc, le-antisymm}
+use native.Mathlib.Nat.{le-div-iff-mul-le, mul-le-mul-left, mul-div-le, mul-suc, mul-comm, le-antisymm}
+use native.Mathlib.Numerals.{add-one}
 use native.Mathlib.Omega.{arith}
 use borrow.Author.Tests.{ne-eqb, eq-eqb, eqb-true, eqb-false}
 use lib.ListN.{length}
@@ -24,6 +25,10 @@ row-here w rows i l h =
     let wide : 0 < w = omega arith in
     let last : i + 1 ≤ length rows / w = le-div-iff-mul-le wide .1 h in
     omega (arith, last)
+
+-- one that does not is none of them
+pub row-past : (w : ℕ) (rows : List ℕ) (i : ℕ) → length rows < (i + 1) * w → i < rowsIn w rows → ⊥
+row-past w rows i h l = let end : (i + 1) * w ≡ w * i + w = mul-comm (i + 1) w ∙ rw add-one (mul-suc w i) in omega (arith, row-fits w rows i l, end)
 
 -- the next turn of a search, its end at a row, and its end without one
 module _ (w : ℕ) (rows : List ℕ) (e i : ℕ) (sofar : findRow w rows i e ≡ none) where

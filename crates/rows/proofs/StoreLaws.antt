@@ -14,9 +14,9 @@ use lib.ListN.{length, getD}
 use Rattle.answer.specs.Fault.{Fault, first, firstIn}
 use Rattle.answer.proofs.FaultLaws.{▹-none}
 use Rattle.answer.proofs.ListFaults.{first-append}
-use Rattle.rows.specs.Rows.{entityAt, findRow, Distinct}
+use Rattle.rows.specs.Rows.{entityAt, findRow}
 use Rattle.rows.specs.Store.{rowsFrom, allRows, get}
-use Rattle.rows.proofs.RowLaws.{found-in, found-first, none-named, find-own}
+use Rattle.rows.proofs.RowLaws.{found-in, found-first, none-named}
 
 -- ---- a run of rows
 module _ {R : Type 0} (row : ℕ → R) where
@@ -136,8 +136,3 @@ module _ {R : Type 0} (w : ℕ) (rows : List ℕ) (row : ℕ → R) (entity : R 
   get-missing p =
       get-none entity e (allRows row n)
       (λ r m q. rows-in row 0 n r m (λ j l u h. none-named w rows n e (sym p) j (omega arith) (sym (named j) ∙ ap entity (sym h) ∙ q)))
-
--- where entities do not repeat, the lookup of a row's entity is the row
-pub get-own : {R : Type 0} (w : ℕ) (rows : List ℕ) (row : ℕ → R) (entity : R → ℕ) → ((i : ℕ) → entity (row i) ≡ entityAt w rows i) → (n : ℕ) → Distinct w rows n → (i : ℕ) → i < n → get entity (entity (row i)) (allRows row n) ≡ some (row i)
-get-own w rows row entity named n new i l =
-    get-found w rows row entity named n (entity (row i)) i (rw named (find-own w rows n new i l))

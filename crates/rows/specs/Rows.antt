@@ -26,6 +26,10 @@ u64Field w rows i f = littleEndian 8 rows (w * i + f)
 abbrev pub entityAt : ℕ → List ℕ → ℕ → ℕ
 entityAt w rows i = u32Field w rows i 0
 
+-- row i is there and names the entity e
+abbrev pub NamedBy : ℕ → List ℕ → ℕ → ℕ → Type 0
+NamedBy w rows e i = (i < rowsIn w rows) × (entityAt w rows i ≡ e)
+
 -- the first of n rows that names the entity e
 unfoldable pub findRow : ℕ → List ℕ → ℕ → ℕ → Option ℕ
 findRow w rows n e = first n (λ i. given (eqb (entityAt w rows i) e) i)

@@ -2,7 +2,7 @@
 ghost use mathlib.Core.Path.{_≡_};
 ghost use mathlib.Core.Bool.{true};
 ghost use Prim.Native.Nat.{_+_, _*_, _≤_, _<_};
-ghost use Rattle.rows.specs.Rows.{rowsIn, u32Field, u64Field, entityAt, findRow, foundAt, Distinct};
+ghost use Rattle.rows.specs.Rows.{rowsIn, u32Field, u64Field, NamedBy, findRow, foundAt, Distinct};
 
 pub enum Found {
     At(usize),
@@ -51,7 +51,7 @@ pub fn find_row(rows: &[u8], w: usize, n: usize, entity: u32) -> Found
 // Whether row i is there and names the entity; it takes no division.
 pub fn names(rows: &[u8], w: usize, i: u32, entity: u32) -> bool
     requires { ⌜ (4 ≤ w) × (w ≤ 32) ⌝ }
-    ensures { λ r. ⌜ (r ≡ true → (i < rowsIn w (now (rows .entry))) × (entityAt w (now (rows .entry)) i ≡ entity)) ⌝ }
+    ensures { λ r. ⌜ (r ≡ true → NamedBy w (now (rows .entry)) entity i) × (NamedBy w (now (rows .entry)) entity i → r ≡ true) ⌝ }
 {
     if rows.len() < (i as usize + 1) * w {
         return false;

@@ -1,14 +1,14 @@
 // The faults of a sheet's set rows, and the walks over the two lists of a set's record.
 ghost use mathlib.Core.Path.{_≡_};
 ghost use mathlib.Core.Option.{some};
-ghost use Prim.Native.Nat.{_<_};
+ghost use Prim.Native.Nat.{_<_, _≤_};
 ghost use Rattle.answer.specs.Fault.{faultOf};
 ghost use Rattle.layout.specs.Layout.{rowCount};
 ghost use Rattle.lookup.specs.Hints.{Noted};
 ghost use Rattle.game.specs.Game.{kindOf};
 ghost use Rattle.sheet.specs.Meaning.{setRow, gameOf, Opens};
-ghost use Rattle.set_faults.specs.Faults.{labelsOf, sameLabels, memberFault, agreementFault, firstRow, rowFault, setFault};
-ghost use Rattle.set_faults.specs.Words.{rowTotal, wordAt, wordsFrom, ahead, Onward, ended, wordIn};
+ghost use Rattle.set_faults.specs.Faults.{labelsOf, sameLabels, memberFault, agreementFault, firstRow, setRowFault, setsFault};
+ghost use Rattle.set_faults.specs.Words.{Sound, rowTotal, wordAt, wordsFrom, ahead, Onward, SoundBefore, ended, wordIn};
 use answer::Check;
 use answer::refuse;
 use game::InformationSet;
@@ -110,7 +110,7 @@ fn is_end(next: Next) -> bool
 
 // Whether the action edges of two nodes bear the same labels.
 fn same_labels(sheet: &[u8], hints: &[u16], a: u32, b: u32) -> bool
-    requires { ⌜ Noted (now sheet) (now hints) ⌝ }
+    requires { ⌜ Noted (now sheet) (now hints) × Sound (now sheet) (Listed.Labels a) × Sound (now sheet) (Listed.Labels b) ⌝ }
     ensures { λ r. ⌜ r ≡ sameLabels (gameOf (now (sheet .entry))) (labelsOf (gameOf (now (sheet .entry))) a) (labelsOf (gameOf (now (sheet .entry))) b) ⌝ }
 {
     let mut i = 0;
@@ -162,26 +162,26 @@ fn check_member(sheet: &[u8], hints: &[u16], row: InformationSet) -> Check
     Check::Passed
 }
 
-// The first row of row i's set.
-fn first_row(sheet: &[u8], i: usize) -> InformationSet
+// The number of the first row of row i's set.
+fn first_row(sheet: &[u8], i: usize) -> usize
     requires { ⌜ Opens (now sheet) × (i < rowCount (now sheet) 7) ⌝ }
-    ensures { λ r. ⌜ some r ≡ firstRow (gameOf (now (sheet .entry))) (setRow (now (sheet .entry)) i .id) ⌝ }
+    ensures { λ r. ⌜ (some (setRow (now (sheet .entry)) r) ≡ firstRow (gameOf (now (sheet .entry))) (setRow (now (sheet .entry)) i .id)) × (r ≤ i) ⌝ }
 {
     let row = sheet::set_row(sheet, i);
     let mut j = 0;
     while j < i {
         let earlier = sheet::set_row(sheet, j);
         if earlier.id == row.id {
-            return earlier;
+            return j;
         }
         j += 1;
     }
-    row
+    i
 }
 
 // Refusal 23 of a set row, against the first row of its set.
 fn check_agreement(sheet: &[u8], hints: &[u16], row: InformationSet, first: InformationSet) -> Check
-    requires { ⌜ Noted (now sheet) (now hints) ⌝ }
+    requires { ⌜ Noted (now sheet) (now hints) × Sound (now sheet) (Listed.Labels (row .entity)) × Sound (now sheet) (Listed.Labels (first .entity)) ⌝ }
     ensures { λ r. ⌜ faultOf r ≡ agreementFault (gameOf (now (sheet .entry))) row (some first) ⌝ }
 {
     if first.player != row.player {
@@ -196,10 +196,10 @@ fn check_agreement(sheet: &[u8], hints: &[u16], row: InformationSet, first: Info
     Check::Passed
 }
 
-// The first refusal of set row i.
+// The first refusal of set row i, where the rows before it have none.
 fn check_row(sheet: &[u8], hints: &[u16], i: usize) -> Check
-    requires { ⌜ Noted (now sheet) (now hints) × (i < rowCount (now sheet) 7) ⌝ }
-    ensures { λ r. ⌜ faultOf r ≡ rowFault (gameOf (now (sheet .entry))) (setRow (now (sheet .entry)) i) ⌝ }
+    requires { ⌜ Noted (now sheet) (now hints) × (i < rowCount (now sheet) 7) × SoundBefore (now sheet) i ⌝ }
+    ensures { λ r. ⌜ faultOf r ≡ setRowFault (gameOf (now (sheet .entry))) (setRow (now (sheet .entry)) i) ⌝ }
 {
     let row = sheet::set_row(sheet, i);
     let member = check_member(sheet, hints, row);
@@ -210,13 +210,14 @@ fn check_row(sheet: &[u8], hints: &[u16], i: usize) -> Check
     if let Check::Refused(_) = actions {
         return actions;
     }
-    check_agreement(sheet, hints, row, first_row(sheet, i))
+    let first = sheet::set_row(sheet, first_row(sheet, i));
+    check_agreement(sheet, hints, row, first)
 }
 
 // The first refusal of the set rows.
 pub fn check_rows(sheet: &[u8], hints: &[u16]) -> Check
     requires { ⌜ Noted (now sheet) (now hints) ⌝ }
-    ensures { λ r. ⌜ faultOf r ≡ setFault (gameOf (now (sheet .entry))) ⌝ }
+    ensures { λ r. ⌜ faultOf r ≡ setsFault (gameOf (now (sheet .entry))) ⌝ }
 {
     let n = layout::row_count(sheet, 7);
     let mut i = 0;

@@ -26,10 +26,6 @@ module _ (s : List ℕ) where
   unfolding opening
   opening-done ok = rw ok
 
-  pub opening-refused : (r : Refusal) → sheetFault s ≡ some r → opening s ≡ refused r
-  unfolding opening
-  opening-refused r e = rw e
-
   -- bytes that have a game open, and the game is the one read off them
   pub done-opens : {P : Type 0} (g : Game) → opening s ≡ done g → (Opens s → g ≡ gameOf s → P) → P
   unfolding opening

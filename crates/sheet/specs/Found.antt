@@ -1,13 +1,13 @@
 -- What the lookups of the code answer, as rows of the game. Definitions only.
-use Prim.Native.Nat.{ℕ, _+_, _≤_}
+use Prim.Native.Nat.{ℕ, _+_, _<_, _≤_}
+use mathlib.Core.Path.{_≡_}
 use mathlib.Core.List.{List}
 use mathlib.Core.Option.{Option, none, some}
 use Rattle.rows.specs.Store.{rowsFrom}
-use Rattle.layout.specs.Layout.{rowCount}
+use Rattle.layout.specs.Layout.{rowCount, field}
 use Rattle.game.specs.declared.Node.{Node}
 use Rattle.game.specs.declared.ActionEdge.{ActionEdge}
-use Rattle.game.specs.declared.InformationSet.{InformationSet}
-use Rattle.game.specs.Game.{Chance, TerminalUtility, chanceIn}
+use Rattle.game.specs.Game.{Chance, TerminalUtility, kindOf, chanceIn}
 use Rattle.sheet.specs.declared.NodeFound.{NodeFound}
 use Rattle.sheet.specs.declared.NodeFound.the-variants as N
 use Rattle.sheet.specs.declared.ActionFound.{ActionFound}
@@ -17,13 +17,17 @@ use Rattle.sheet.specs.declared.ChanceFound.the-variants as C
 use Rattle.sheet.specs.declared.Terminal.{Terminal}
 use Rattle.sheet.specs.declared.TerminalFound.{TerminalFound}
 use Rattle.sheet.specs.declared.TerminalFound.the-variants as T
-use Rattle.sheet.specs.declared.SetFound.{SetFound}
-use Rattle.sheet.specs.declared.SetFound.the-variants as S
-use Rattle.sheet.specs.Meaning.{payoffRow}
+use Rattle.sheet.specs.Meaning.{nodeRow, payoffRow, gameOf}
 
 abbrev pub nodeFound : NodeFound → Option Node
 nodeFound (N.Found n) = some n
 nodeFound N.Missing = none
+
+-- e is a node, and this is its row
+pub record NodeAt (s : List ℕ) (row e : ℕ) : Type 0 where
+  pub here : row < rowCount s 0
+  pub entity : field s 0 row 0 ≡ e
+  pub kind : kindOf (gameOf s) e ≡ some (nodeRow s row .kind)
 
 abbrev pub actionFound : ActionFound → Option ActionEdge
 actionFound (A.Found a) = some a
@@ -32,10 +36,6 @@ actionFound A.Missing = none
 abbrev pub chanceFound : ChanceFound → Option Chance
 chanceFound (C.Found o) = some (chanceIn o)
 chanceFound C.Missing = none
-
-abbrev pub setFound : SetFound → Option InformationSet
-setFound (S.Found i) = some i
-setFound S.Missing = none
 
 -- a terminal of the sheet s, whose payoffs are `count` payoff rows from `first` on
 abbrev pub terminalIn : List ℕ → Terminal → TerminalUtility

@@ -4,9 +4,9 @@ ghost use Prim.Native.Nat.{_<_};
 ghost use Rattle.number.specs.Answers.{utility};
 ghost use Rattle.layout.specs.Layout.{rowCount};
 ghost use Rattle.lookup.specs.Hints.{Noted};
-ghost use Rattle.game.specs.Game.{nodeOf, actionOf, chanceOf, terminalOf, setOf, labelText, sameLabel, chanceIn};
+ghost use Rattle.game.specs.Game.{nodeOf, actionOf, chanceOf, terminalOf, labelText, sameLabel, chanceIn};
 ghost use Rattle.sheet.specs.Meaning.{kindFrom, nodeRow, actionRow, chanceRow, payoffRow, terminalRow, setRow, gameOf, opening, opened, Opens};
-ghost use Rattle.sheet.specs.Found.{nodeFound, actionFound, chanceFound, setFound, terminalIn, terminalFound, InSheet};
+ghost use Rattle.sheet.specs.Found.{nodeFound, actionFound, chanceFound, terminalIn, terminalFound, InSheet};
 use answer::Check;
 use game::ActionEdge;
 use game::ChanceOutcome;
@@ -45,11 +45,6 @@ pub enum TerminalFound {
     Missing,
 }
 
-pub enum SetFound {
-    Found(InformationSet),
-    Missing,
-}
-
 // Any bytes: refusals 1 to 10, or a sheet whose game is read off its bytes.
 pub fn open(sheet: &[u8]) -> Check
     ensures { λ r. ⌜ opened (now (sheet .entry)) r ≡ opening (now (sheet .entry)) ⌝ }
@@ -69,7 +64,6 @@ fn kind_from(kind: u32, player: u32) -> Kind
     Kind::Terminal
 }
 
-// Node row i.
 pub fn node_row(sheet: &[u8], i: usize) -> Node
     requires { ⌜ Opens (now sheet) × (i < rowCount (now sheet) 0) ⌝ }
     ensures { λ r. ⌜ r ≡ nodeRow (now (sheet .entry)) i ⌝ }
@@ -91,7 +85,6 @@ pub fn find_node(sheet: &[u8], hints: &[u16], entity: u32) -> NodeFound
     }
 }
 
-// Action row i.
 fn action_row(sheet: &[u8], i: usize) -> ActionEdge
     requires { ⌜ Opens (now sheet) × (i < rowCount (now sheet) 2) ⌝ }
     ensures { λ r. ⌜ r ≡ actionRow (now (sheet .entry)) i ⌝ }
@@ -113,7 +106,6 @@ pub fn find_action(sheet: &[u8], hints: &[u16], entity: u32) -> ActionFound
     }
 }
 
-// Chance row i.
 fn chance_row(sheet: &[u8], i: usize) -> ChanceOutcome
     requires { ⌜ Opens (now sheet) × (i < rowCount (now sheet) 3) ⌝ }
     ensures { λ r. ⌜ chanceIn r ≡ chanceRow (now (sheet .entry)) i ⌝ }
@@ -136,7 +128,6 @@ pub fn find_chance(sheet: &[u8], hints: &[u16], entity: u32) -> ChanceFound
     }
 }
 
-// Terminal row i.
 fn terminal_row(sheet: &[u8], i: usize) -> Terminal
     requires { ⌜ Opens (now sheet) × (i < rowCount (now sheet) 5) ⌝ }
     ensures { λ r. ⌜ (terminalIn (now (sheet .entry)) r ≡ terminalRow (now (sheet .entry)) i) × InSheet (now (sheet .entry)) (TerminalFound.Found r) ⌝ }
@@ -166,7 +157,6 @@ pub fn payoff(sheet: &[u8], j: usize) -> Utility
     Utility::of_finite(number::from_bits(u64_field(sheet, 6, j, 0)))
 }
 
-// Set row i.
 pub fn set_row(sheet: &[u8], i: usize) -> InformationSet
     requires { ⌜ Opens (now sheet) × (i < rowCount (now sheet) 7) ⌝ }
     ensures { λ r. ⌜ r ≡ setRow (now (sheet .entry)) i ⌝ }
@@ -175,16 +165,6 @@ pub fn set_row(sheet: &[u8], i: usize) -> InformationSet
         entity: u32_field(sheet, 7, i, 0),
         player: u32_field(sheet, 7, i, 4),
         id: u64_field(sheet, 7, i, 8),
-    }
-}
-
-pub fn find_set(sheet: &[u8], hints: &[u16], entity: u32) -> SetFound
-    requires { ⌜ Noted (now sheet) (now hints) ⌝ }
-    ensures { λ r. ⌜ setFound r ≡ setOf (gameOf (now (sheet .entry))) entity ⌝ }
-{
-    match lookup::find_row(sheet, hints, 7, entity) {
-        Found::At(i) => SetFound::Found(set_row(sheet, i)),
-        Found::Nothing => SetFound::Missing,
     }
 }
 

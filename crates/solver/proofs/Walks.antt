@@ -9,6 +9,7 @@ use Rattle.answer.specs.Answer.{Answer, refused}
 use Rattle.layout.specs.Layout.{rowCount}
 use Rattle.lookup.specs.Hints.{Noted}
 use Rattle.sheet.specs.Meaning.{gameOf}
+use Rattle.sheet.specs.Found.{NodeAt}
 use Rattle.child_rows.specs.Links.{NextOf, firstChild, nextChild, Linked, Chain}
 use Rattle.child_rows.proofs.LinkLaws.{chain-next, chain-goes, chain-room}
 use Rattle.backward_induction.specs.declared.Method.{Method}
@@ -19,7 +20,7 @@ use Rattle.memo.specs.Memo.{Rows, entry, height, PayoffRoom, Within, Memo, Exte
 use Rattle.memo.specs.Visits.{Visits, KeptAs}
 use Rattle.memo.proofs.VisitLaws.{kept-visits}
 use Rattle.entering.proofs.FirstChild.{first-chain}
-use Rattle.entering.specs.Solving.{NodeAt, Asks, EnteredAs, Enters}
+use Rattle.entering.specs.Solving.{Asks, EnteredAs, Enters}
 use Rattle.entering.specs.declared.Entered.{Entered}
 
 -- the lists are as long as they were

@@ -22,10 +22,11 @@ use Rattle.graph_relations.specs.RelationRows.{childRow}
 use Rattle.game.specs.declared.Node.{Node}
 use Rattle.game.specs.Game.{kindOf}
 use Rattle.sheet.specs.Meaning.{nodeRow, gameOf, Opens}
+use Rattle.sheet.specs.Found.{NodeAt}
 use Rattle.topology.specs.declared.Entered.{Entered}
 use Rattle.topology.specs.declared.Entered.the-variants.{Done, New}
 use Rattle.topology.specs.Topology.{isIn, missing, kindFault, walkFault}
-use Rattle.topology.specs.Marks.{Way, Marks, Visit, Visits, NodeAt, Ready, Enters}
+use Rattle.topology.specs.Marks.{Way, Marks, Visit, Visits, Ready, Enters}
 use Rattle.topology.proofs.WalkLaws.{not-missing, walk-cycle, walk-missing, walk-kind, walk-below, way-on, walk-sound, sound-walk}
 use Rattle.topology.proofs.ChildrenLeft.{childrenLeft, left-all, left-child, left-none, left-skips, left-gives}
 use Rattle.topology.proofs.MarkLaws.{mark-visiting, mark-visited}
@@ -55,12 +56,12 @@ module _ (s : List ℕ) (left d e : ℕ) (marks : List ℕ) (deep : left ≡ suc
       outside path way true h = absurd (Option·some-ne-none _ (sym q ∙ way .nodes e h))
       outside path way false h = refl
 
-  module _ (row : ℕ) (node : NodeAt s e row) where
+  module _ (row : ℕ) (node : NodeAt s row e) where
     is-node : missing (gameOf s) e ≡ none
     is-node = not-missing (gameOf s) e _ (node .kind)
 
     on-path : (path : List ℕ) → Marks s path marks → isIn e path ≡ eqb (getD marks row 0) 1
-    on-path path m = ap (λ x. isIn x path) (sym (node .named)) ∙ m .visiting row (node .within)
+    on-path path m = ap (λ x. isIn x path) (sym (node .entity)) ∙ m .visiting row (node .here)
 
     pub visit-cycle : (v : Check) (after : List ℕ) → getD marks row 0 ≡ 1 → faultOf v ≡ some (cycleDetected e) → Visits s left e marks v after
     visit-cycle v after q p =
@@ -70,7 +71,7 @@ module _ (s : List ℕ) (left d e : ℕ) (marks : List ℕ) (deep : left ≡ suc
     pub visit-again : getD marks row 0 ≡ 2 → Visits s left e marks Passed marks
     visit-again q path way m =
         record {
-          fault = sym (sound-walk (gameOf s) (rw (node .named) at (m .visited row (node .within) q)) left path way);
+          fault = sym (sound-walk (gameOf s) (rw (node .entity) at (m .visited row (node .here) q)) left path way);
           kept = λ p. m;
         }
 

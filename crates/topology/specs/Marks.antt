@@ -3,7 +3,7 @@ use Prim.Native.Nat.{ℕ, zero, suc, _≤_, _<_}
 use mathlib.Core.Path.{_≡_}
 use mathlib.Core.Bool.{true, cond}
 use mathlib.Core.List.{List, [], _∷_, List·Memᴰ}
-use mathlib.Core.Option.{none, some}
+use mathlib.Core.Option.{none}
 use lib.ListN.{length, getD}
 use lib.Dec.{eqb}
 use Rattle.answer.specs.declared.Check.{Check}
@@ -12,7 +12,8 @@ use Rattle.layout.specs.Layout.{rowCount, field}
 use Rattle.graph_relations.specs.Relations.{childrenOf}
 use Rattle.game.specs.declared.Node.{Node}
 use Rattle.game.specs.Game.{Game, kindOf}
-use Rattle.sheet.specs.Meaning.{nodeRow, gameOf}
+use Rattle.sheet.specs.Meaning.{gameOf}
+use Rattle.sheet.specs.Found.{NodeAt}
 use Rattle.topology.specs.declared.Entered.{Entered}
 use Rattle.topology.specs.declared.Entered.the-variants as Entering
 use Rattle.topology.specs.Topology.{isIn, missing, kindFault, walkFault}
@@ -53,16 +54,10 @@ pub record Visit (s : List ℕ) (depth : ℕ) (path : List ℕ) (e : ℕ) (v : C
 abbrev pub Visits : List ℕ → ℕ → ℕ → List ℕ → Check → List ℕ → Type 0
 Visits s depth e marks v after = (path : List ℕ) → Way (gameOf s) depth path e → Marks s path marks → Visit s depth path e v after
 
--- e is a node, and this is its row
-pub record NodeAt (s : List ℕ) (e row : ℕ) : Type 0 where
-  pub within : row < rowCount s 0
-  pub named : field s 0 row 0 ≡ e
-  pub kind : kindOf (gameOf s) e ≡ some (nodeRow s row .kind)
-
 -- a node whose children are left to walk: there is depth left, it is on no path that the marks stand for, and its kind has no fault
 pub record Ready (s : List ℕ) (depth e : ℕ) (marks : List ℕ) (row : ℕ) : Type 0 where
   pub deep : 0 < depth
-  pub node : NodeAt s e row
+  pub node : NodeAt s row e
   pub new : getD marks row 0 ≡ 1 → ⊥
   pub kind : kindFault (gameOf s) e (kindOf (gameOf s) e) ≡ none
 

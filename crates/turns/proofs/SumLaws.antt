@@ -10,12 +10,12 @@ use native.Mathlib.Numerals.{add-one}
 use lib.ListN.{length, getD, take, drop, set, replicate, length-take, length-set, length-map, List·getD-map}
 use lib.Seq.{take-suc, take-suc-set, drop-set-lt, drop-drop, getD-take, length-take-le}
 use lib.Ieee.{Float}
-use Rattle.number.specs.Number.{Number, finite, plus, times, isFinite, outcome, sumOn}
+use Rattle.number.specs.Number.{Number, finite, plus, times, isFinite}
 use Rattle.number.specs.Meaning.{meaning}
 use Rattle.number.specs.Answers.{finiteOnly, plusProduct, weighted}
 use Rattle.number.specs.declared.Weighted.{Weighted}
 use Rattle.number.specs.declared.Weighted.the-variants.{Finite, OutOfRange}
-use Rattle.number.proofs.Sums.{plusProducts-sumOn}
+use Rattle.number.proofs.Sums.{outcome, sumOn, plusProducts-sumOn}
 use Rattle.backward_induction.specs.Solve.{products, allFinite}
 use Rattle.turns.specs.declared.Sum.{Sum}
 use Rattle.turns.specs.Sums.{cell, SettledAs}

@@ -144,7 +144,6 @@ pub fn store_best(
     Visit::Solved(row)
 }
 
-// No sums yet.
 pub fn no_sums() -> Sums
     ensures { λ r. ⌜ Holds r none ⌝ }
 {

@@ -1,13 +1,13 @@
 -- The worked sheet with a byte changed, or cut short, is refused as 01 says: each by computation from the definitions.
 use Prim.Native.Nat.{ℕ}
 use mathlib.Core.Path.{_≡_, refl}
-use mathlib.Core.List.{List, [], _∷_, _++_}
+use mathlib.Core.List.{List}
 use mathlib.Core.Option.{none, some}
 use lib.ListN.{set, take}
 use Rattle.little_endian.specs.LittleEndian.{littleEndian, bytesOf}
 use Rattle.number.specs.Number.{fromFields, fromBits}
-use Rattle.answer.specs.Fault.{Fault, first, given, _▹_}
-use Rattle.answer.specs.Refusals.{badSize, wrongMark, wrongEdition, badSection, badRow, emptyActionLabel, invalidChanceProbability, noTerminalPayoffs, nonFiniteUtility}
+use Rattle.answer.specs.Fault.{Fault, first, firstIn, given, _▹_}
+use Rattle.answer.specs.Refusals.{badSize, wrongMark, wrongEdition, badSection, badRow, emptyActionLabel, invalidChanceProbability, noTerminalPayoffs}
 use Rattle.rows.specs.Rows.{rowsIn, u32Field, u64Field, findRow, repeated}
 use Rattle.layout.specs.Layout.{width, rowLimit, edition, offsetOf, lengthOf, startOf, sectionFault, sameBytes, layoutFault, section, rowCount, field, field64}
 use Rattle.opening.specs.Faults.{nodeFault, labelFault, chanceFault, terminalFault, payoffFault, setFault, labelEnd, previousEnd, labelRowFault, textFault, fieldsFault}
@@ -16,7 +16,7 @@ use Rattle.worked.specs.Written.{u32s, f64s, pairs, joined, written}
 use Rattle.worked.specs.Worked.{sheetWith, worked}
 
 faultIn : List ℕ → Fault
-unfolding sheetFault rowsFault totalFault payoffStart rowFault hasEntity fieldsFault nodeFault labelFault chanceFault terminalFault payoffFault setFault labelEnd previousEnd labelRowFault textFault layoutFault sectionFault sameBytes startOf offsetOf lengthOf edition rowLimit width section rowCount field field64 rowsIn u32Field u64Field findRow repeated littleEndian first given _▹_ fromBits fromFields
+unfolding sheetFault rowsFault totalFault payoffStart rowFault hasEntity fieldsFault nodeFault labelFault chanceFault terminalFault payoffFault setFault labelEnd previousEnd labelRowFault textFault layoutFault sectionFault sameBytes startOf offsetOf lengthOf edition rowLimit width section rowCount field field64 rowsIn u32Field u64Field findRow repeated littleEndian first firstIn given _▹_ fromBits fromFields
 faultIn s = sheetFault s
 
 -- with the byte b in place of that at i

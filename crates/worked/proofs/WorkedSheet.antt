@@ -5,9 +5,8 @@ use mathlib.Core.List.{[], _∷_, filterMap}
 use mathlib.Core.Option.{none, some}
 use lib.ListN.{length}
 use Rattle.number.specs.Number.{fromBits, fromFields}
-use Rattle.answer.specs.Fault.{first, given, _▹_}
-use Rattle.answer.specs.Answer.{done, refused, collect}
-use Rattle.answer.specs.Refusals.{missingTransition}
+use Rattle.answer.specs.Fault.{first, firstIn, given, _▹_}
+use Rattle.answer.specs.Answer.{done, collect}
 use Rattle.little_endian.specs.LittleEndian.{littleEndian, bytesOf}
 use Rattle.rows.specs.Rows.{rowsIn, u32Field, u64Field, findRow, repeated}
 use Rattle.rows.specs.Store.{rowsFrom, get}
@@ -17,7 +16,7 @@ use Rattle.opening.specs.SheetFault.{hasEntity, rowFault, payoffStart, totalFau
 use Rattle.graph_relations.specs.Relations.{childIn, childrenOf, transitionTarget}
 use Rattle.graph_relations.specs.RelationRows.{childRow, childRows, transitionRow, transitionRows}
 use Rattle.game.specs.declared.Kind.the-variants as Kinds
-use Rattle.game.specs.Game.{nodeOf, kindOf, actionOf, chanceOf, terminalOf, setOf, labelText, sameLabel}
+use Rattle.game.specs.Game.{nodeOf, kindOf, actionOf, chanceOf, terminalOf, labelText, sameLabel}
 use Rattle.game.specs.Edges.{transitionFault, edgeOf, outgoing, outgoingActionEdges, outgoingChanceOutcomes}
 use Rattle.sheet.specs.Meaning.{kindFrom, nodeRow, actionRow, chanceRow, payoffRow, terminalRow, setRow, labelRow, gameOf, opening}
 use Rattle.worked.specs.Written.{u32s, f64s, pairs, joined, written}
@@ -28,7 +27,7 @@ unfolding worked sheetWith written pairs joined u32s f64s bytesOf
 worked-length = refl
 
 pub worked-opens : opening worked ≡ done workedGame
-unfolding worked sheetWith written pairs joined u32s f64s bytesOf workedGame opening sheetFault rowsFault totalFault payoffStart rowFault hasEntity fieldsFault nodeFault labelFault chanceFault terminalFault payoffFault setFault labelEnd previousEnd labelRowFault textFault layoutFault sectionFault sameBytes startOf offsetOf lengthOf edition rootOf rowLimit width section rowCount field field64 rowsIn u32Field u64Field findRow repeated littleEndian first given _▹_ rowsFrom gameOf kindFrom nodeRow actionRow chanceRow payoffRow terminalRow setRow labelRow childRow childRows transitionRow transitionRows fromBits fromFields
+unfolding worked sheetWith written pairs joined u32s f64s bytesOf workedGame opening sheetFault rowsFault totalFault payoffStart rowFault hasEntity fieldsFault nodeFault labelFault chanceFault terminalFault payoffFault setFault labelEnd previousEnd labelRowFault textFault layoutFault sectionFault sameBytes startOf offsetOf lengthOf edition rootOf rowLimit width section rowCount field field64 rowsIn u32Field u64Field findRow repeated littleEndian first firstIn given _▹_ rowsFrom gameOf kindFrom nodeRow actionRow chanceRow payoffRow terminalRow setRow labelRow childRow childRows transitionRow transitionRows fromBits fromFields
 worked-opens = refl
 
 -- ---- lookups by entity
@@ -64,10 +63,6 @@ terminal-four = refl
 pub target-of-ten : transitionTarget 10 (workedGame .transitions) ≡ some 2
 unfolding transitionTarget get workedGame
 target-of-ten = refl
-
-pub set-of-one : setOf workedGame 1 ≡ none
-unfolding setOf get workedGame
-set-of-one = refl
 
 pub label-two : labelText workedGame 2 ≡ highText
 unfolding labelText workedGame

@@ -2,7 +2,7 @@
 -- the terminals have payoffs 3 (2, 2), 4 (8, 0), 5 (0, 4). Definitions only.
 use Prim.Native.Nat.{ℕ}
 use mathlib.Core.List.{List, [], _∷_, _++_}
-use Rattle.number.specs.Number.{Number, fromBits}
+use Rattle.number.specs.Number.{fromBits}
 use Rattle.graph_relations.specs.Relations.{ChildRow, TransitionRow}
 use Rattle.game.specs.declared.Kind.{Kind}
 use Rattle.game.specs.declared.Kind.the-variants as Kinds

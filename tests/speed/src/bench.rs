@@ -2,10 +2,10 @@
 
 use crate::answer::{Call, KINDS};
 use crate::clock::{in_turn, Times};
-use crate::draft::Draft;
+use crate::draft::{field, Draft};
 use crate::judge::{self, Difference, Subject};
 use crate::oracle::{Outcome, Stores};
-use crate::report::{grouped, number, row, Report};
+use crate::report::{grouped, number, row, time, Report};
 use crate::sheet::{Sheet, TRANSITIONS};
 use crate::worst::AMPLE;
 use crate::{library, ours, rust};
@@ -39,6 +39,10 @@ impl Named {
 
     pub fn bytes(&self) -> &[u8] {
         &self.subject.bytes
+    }
+
+    pub fn root(&self) -> u32 {
+        field(&self.subject.bytes, 8)
     }
 
     /// What the library answers, in a word.
@@ -100,6 +104,11 @@ impl Bench {
 
     /// The library's median time.
     pub fn alone(&mut self, named: &Named, call: &Call) -> Done<f64> {
+        Ok(self.times(named, call)?.median())
+    }
+
+    /// The library's times.
+    fn times(&mut self, named: &Named, call: &Call) -> Done<Times> {
         self.check(named, call)?;
         let buffer = &mut self.buffer;
         let mut ours = || {
@@ -107,7 +116,8 @@ impl Bench {
         };
         let times = in_turn([&mut ours], self.budget);
         self.report.note(&times);
-        Ok(times[0].median())
+        let [times] = times;
+        Ok(times)
     }
 
     /// The library's times on each of some sheets, taken in turn, of a call that is lent nothing.
@@ -135,7 +145,7 @@ impl Bench {
             (Err(refusal), _) => return Err(format!("{}: refused by {}", named.name, refusal.number).into()),
         };
         if let Some(long) = compare(named, stores, call)? {
-            return Ok([Times(vec![self.alone(named, call)?]), long]);
+            return Ok([self.times(named, call)?, long]);
         }
         let buffer = &mut self.buffer;
         let mut ours = || {
@@ -146,26 +156,34 @@ impl Bench {
         Ok(times)
     }
 
-    /// A row with both times; the ratio is held to a goal, if there is one.
-    pub fn ratio(&mut self, named: &Named, call: &Call, most: Option<f64>) -> Done<()> {
+    /// A row with both times; the ratio is held to a goal.
+    pub fn ratio(&mut self, named: &Named, call: &Call, most: f64) -> Done<()> {
+        let what = format!("{}, {}, ratio", KINDS[call.kind()], named.name);
+        self.row(named, call, |report, ratio| format!("{most:.1}: {}", report.goal(&what, ratio, most)))
+    }
+
+    /// A row with both times that no goal holds.
+    pub fn no_goal(&mut self, named: &Named, call: &Call) -> Done<()> {
+        self.row(named, call, |_, _| "none".to_owned())
+    }
+
+    /// A row with both times and why the ratio is not reached; where it is, the row says that too.
+    pub fn not_reached(&mut self, named: &Named, call: &Call, most: f64, why: &str) -> Done<()> {
+        self.row(named, call, |_, ratio| format!("{}{why}", if ratio <= most { "**Reached here.** " } else { "" }))
+    }
+
+    fn row(&mut self, named: &Named, call: &Call, last: impl FnOnce(&mut Report, f64) -> String) -> Done<()> {
         let [ours, theirs] = self.both(named, call)?;
         let ratio = ours.over(&theirs);
-        let kind = KINDS[call.kind()];
-        let met = match most {
-            Some(most) => {
-                format!("{most:.1}: {}", self.report.goal(&format!("{kind}, {}, ratio", named.name), ratio, most))
-            }
-            None => "none".to_owned(),
-        };
         row([
             named.name.clone(),
-            kind.to_owned(),
+            KINDS[call.kind()].to_owned(),
             grouped(named.edges as u64),
             grouped(named.bytes().len() as u64),
-            number(ours.median()),
-            number(theirs.median()),
+            time(&ours),
+            time(&theirs),
             number(ratio),
-            met,
+            last(&mut self.report, ratio),
         ]);
         Ok(())
     }

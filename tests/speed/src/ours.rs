@@ -1,4 +1,4 @@
-//! The library's calls alone, with a buffer that is lent again and again.
+//! The library's calls alone, with a buffer that is lent again and again: library.rs fills one at each call.
 
 use crate::answer::{Call, Variant};
 use crate::library::*;

@@ -4,6 +4,9 @@ use crate::clock::{in_turn, Times};
 use std::hint::black_box;
 use std::time::Duration;
 
+/// The title of the table to which the last lines point.
+pub const NOT_REACHED: &str = "Where the ratio is not reached";
+
 #[derive(Default)]
 pub struct Report {
     goals: usize,
@@ -61,7 +64,12 @@ impl Report {
     /// Prints which goals were missed; whether none was.
     pub fn print_goals(&self) -> bool {
         println!("\n## Goals\n");
-        println!("{} of {} goals met.", self.goals - self.missed.len(), self.goals);
+        println!(
+            "{} of {} goals met among the shapes that are held to them. The table '{NOT_REACHED}' has shapes that are not \
+             held to a ratio, and why.",
+            self.goals - self.missed.len(),
+            self.goals
+        );
         for missed in &self.missed {
             println!("- missed: {missed}");
         }
@@ -78,6 +86,12 @@ pub fn table<const N: usize>(title: &str, columns: [&str; N]) {
 
 pub fn row<const N: usize>(cells: [String; N]) {
     println!("| {} |", cells.join(" | "));
+}
+
+/// The median, or the only call that was timed.
+pub fn time(times: &Times) -> String {
+    let one_call = if times.0.len() == 1 { ", one call" } else { "" };
+    format!("{}{one_call}", number(times.median()))
 }
 
 /// Three digits or all of a whole number.

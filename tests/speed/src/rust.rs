@@ -1,4 +1,5 @@
-//! The Rust's functions alone: the stores are built before, and the answer is dropped as it is.
+//! The Rust's functions alone: the stores are built before, and the answer is dropped as it is, where oracle.rs turns it
+//! into a struct.
 
 use crate::answer::{Call, Variant};
 use crate::oracle::Stores;

@@ -1,6 +1,6 @@
 //! The shapes of the sheets that are timed.
 
-use crate::draft::{field, row, set_field, Draft};
+use crate::draft::{field, row, Draft};
 use crate::random::Random;
 use crate::sheet::*;
 
@@ -161,30 +161,6 @@ pub fn arranged(mut draft: Draft, order: Order) -> Draft {
     draft
 }
 
-/// The same rows with entities 65,536 apart, so that all fall into one slot of any table by entity; 1 stays 1.
-pub fn in_one_slot(mut draft: Draft) -> Draft {
-    let apart = |entity: u32| entity.wrapping_sub(1).wrapping_mul(65_536).wrapping_add(1);
-    let places: [(usize, &[usize]); 7] = [
-        (NODES, &[0]),
-        (CHILDREN, &[0, 4]),
-        (ACTIONS, &[0, 8]),
-        (CHANCES, &[0, 8]),
-        (TRANSITIONS, &[0, 4]),
-        (TERMINALS, &[0]),
-        (SETS, &[0]),
-    ];
-    for (section, fields) in places {
-        for row in &mut draft.sections[section] {
-            for &at in fields {
-                let entity = field(row, at);
-                set_field(row, at, apart(entity));
-            }
-        }
-    }
-    draft.root = apart(draft.root);
-    draft
-}
-
 /// The first node of the subtree that a spine leads into.
 pub const SUBTREE: u32 = 1_000;
 
@@ -228,31 +204,25 @@ pub fn no_root(bytes: usize) -> Draft {
     draft
 }
 
-/// 65,536 bytes: 1,000 replies with a terminal each, and text that no label has.
-pub fn longest() -> Draft {
-    let mut draft = full_tree(2, 1_000, Kinds::Decisions);
+/// 65,536 bytes: these rows, and text that no label has.
+fn longest(mut draft: Draft) -> Draft {
     let rest = LONGEST - draft.encode().len();
     draft.sections[TEXT].extend(vec![vec![b'x']; rest]);
     draft
 }
 
-/// 65,536 bytes, of which the solve meets few: 1,024 nodes, child rows and terminals, 90 edges.
+/// 65,536 bytes: 1,000 replies with a terminal each.
+pub fn longest_replies() -> Draft {
+    longest(full_tree(2, 1_000, Kinds::Decisions))
+}
+
+/// 65,536 bytes, of which the solve meets few: 1,024 nodes and child rows, 90 edges.
 pub fn mostly_unmet() -> Draft {
-    let mut draft = Draft { root: 1, ..Draft::default() };
-    for label in 0..256 {
-        draft.label(if label < 156 { "a" } else { "" });
-    }
-    draft.decision(1, 3);
-    for terminal in 2..1_025 {
-        let value = f64::from(terminal);
-        draft.terminal(terminal, &[-value, 1.0 / value, value, 0.1 * f64::from(terminal % 89)]);
-    }
-    draft.payoffs(5_000, &[0.0; 4]);
-    for edge in 0..90 {
-        draft.action(20_000 + edge, 1, edge, 1_024 - edge);
-    }
-    for edge in 90..1_024 {
-        draft.sections[CHILDREN].push(row([20_000 + edge, 1]));
-    }
-    draft
+    longest(made(|maker| {
+        maker.payoffs = 4;
+        let targets: Vec<u32> = (935..=1_024).rev().collect();
+        maker.inner(1, 0, Kinds::Decisions, &targets);
+        (2..=1_024).for_each(|entity| maker.terminal(entity));
+        (90..1_024).for_each(|_| maker.stray_child(1));
+    }))
 }

@@ -1,7 +1,7 @@
 //! How much stack a call needs: it runs in a child process, on a thread of which so much is already used, and the
 //! most that may be used without a crash is found by bisection.
 
-use crate::answer::Call;
+use crate::answer::{Call, Variant};
 use crate::draft::Draft;
 use crate::sheets::*;
 use crate::worst::{longest_walk, sets_of, AMPLE};
@@ -19,6 +19,7 @@ const STACK: usize = 4 << 20;
 pub fn cases() -> Vec<(&'static str, &'static str, Draft, Call)> {
     let [solve, plain] = [Call::Solve { start: 1, limit: 64 }, Call::SolvePlain { start: 1, limit: 64 }];
     let paths = Call::Paths { start: 1, limit: 64, room: AMPLE };
+    let kuhn = |variant| Call::Kuhn { variant, iterations: 100 };
     vec![
         ("solve", "63 decisions and a terminal", chain(63, Kinds::Decisions), solve),
         ("solve, chance in turn", "63 levels and a terminal", chain(63, Kinds::InTurn), solve),
@@ -27,6 +28,9 @@ pub fn cases() -> Vec<(&'static str, &'static str, Draft, Call)> {
         ("sets", "1,023 sets", sets_of(1_023, 1, 1_023, 2, 2_000), Call::Sets { room: AMPLE }),
         ("topology", "a chain of 1,024 nodes", longest_walk(), Call::Topology),
         ("opening alone", "64 KB, rows shuffled", arranged(no_root(1 << 16), Order::Shuffled), Call::Topology),
+        ("Kuhn, Vanilla", "none", Draft::default(), kuhn(Variant::Vanilla)),
+        ("Kuhn, CfrPlus", "none", Draft::default(), kuhn(Variant::CfrPlus)),
+        ("Kuhn, LinearCfr", "none", Draft::default(), kuhn(Variant::LinearCfr)),
     ]
 }
 

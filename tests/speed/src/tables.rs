@@ -1,23 +1,28 @@
-//! The tables of the report, but for that of the slowest sheets.
+//! The tables of the report, but for those of the limits and of the slowest sheets.
 
 use crate::answer::{Call, VARIANTS};
 use crate::bench::{Bench, Done, Named};
 use crate::clock::in_turn;
+use crate::draft::Draft;
+use crate::numbering::{in_one_slot, renumbered, times_65_536};
 use crate::report::{grouped, number, row, table};
 use crate::sheets::*;
 use crate::worst::AMPLE;
 use crate::{ours, stack};
-use std::fs;
 
-const SOLVE: Call = Call::Solve { start: 1, limit: 0 };
-const PLAIN: Call = Call::SolvePlain { start: 1, limit: 0 };
-const PATHS: Call = Call::Paths { start: 1, limit: 0, room: AMPLE };
+pub const SOLVE: Call = Call::Solve { start: 1, limit: 0 };
+pub const PLAIN: Call = Call::SolvePlain { start: 1, limit: 0 };
+pub const PATHS: Call = Call::Paths { start: 1, limit: 0, room: AMPLE };
 
-const COLUMNS: [&str; 8] = ["sheet", "call", "edges", "bytes", "ours", "the Rust's", "ratio", "goal"];
+pub const COLUMNS: [&str; 8] = ["sheet", "call", "edges", "bytes", "ours", "the Rust's", "ratio", "goal"];
 
 /// What a solve with its opening may take of the Rust's solve.
-fn most(named: &Named) -> Option<f64> {
-    Some(if named.edges > 200 { 0.5 } else { 1.0 })
+pub fn most(named: &Named) -> f64 {
+    if named.edges > 200 {
+        0.5
+    } else {
+        1.0
+    }
 }
 
 /// Full trees: both solves, paths, and the solve with chance nodes on every second level.
@@ -32,33 +37,12 @@ pub fn trees(bench: &mut Bench) -> Done<()> {
         let named = Named::of(name.clone(), full_tree(levels, edges, Kinds::Decisions));
         bench.ratio(&named, &SOLVE, most(&named))?;
         bench.ratio(&named, &PLAIN, most(&named))?;
-        bench.ratio(&named, &PATHS, None)?;
+        bench.no_goal(&named, &PATHS)?;
         if levels > 2 {
             let named = Named::of(format!("{name}, chance in turn"), full_tree(levels, edges, Kinds::InTurn));
             bench.ratio(&named, &SOLVE, most(&named))?;
         }
     }
-    Ok(())
-}
-
-/// Sheets at the format's limits, and one that is in no goal.
-pub fn limits(bench: &mut Bench) -> Done<()> {
-    let limits = [
-        ("binary tree of 10 levels", full_tree(10, 2, Kinds::Decisions)),
-        ("1,024 replies to one terminal", made(|maker| maker.chain(1, 1_024, Kinds::Decisions))),
-        ("1,024 outcomes to one terminal", made(|maker| maker.chain(1, 1_024, Kinds::Chances))),
-        ("65,536 bytes, 1,000 replies", longest()),
-        ("65,536 bytes, most of them not met by the solve", mostly_unmet()),
-    ];
-    table("Sheets at the format's limits", COLUMNS);
-    for (name, draft) in limits {
-        for (order, said) in ORDERS {
-            let named = Named::of(format!("{name}, rows {said}"), arranged(draft.clone(), order));
-            bench.ratio(&named, &SOLVE, most(&named))?;
-        }
-    }
-    table("In no goal", COLUMNS);
-    bench.ratio(&Named::new("01's small sheet", fs::read("samples/worked.kgs")?), &SOLVE, None)?;
     Ok(())
 }
 
@@ -68,12 +52,14 @@ pub fn chains(bench: &mut Bench) -> Done<()> {
     table("Chains, two edges from each level to one next node", COLUMNS);
     for levels in [5, 6, 7, 8, 10, 12, 14, 16, 18, 20, 22, 24] {
         if levels <= bench.longest_chain {
-            bench.ratio(&named(levels, Kinds::Decisions, ""), &SOLVE, Some(1.0))?;
+            let named = named(levels, Kinds::Decisions, "");
+            bench.ratio(&named, &SOLVE, most(&named))?;
+            bench.ratio(&named, &PLAIN, most(&named))?;
         }
     }
     for levels in [5, 8, 12, 16] {
-        bench.ratio(&named(levels, Kinds::Decisions, ""), &PLAIN, Some(1.0))?;
-        bench.ratio(&named(levels, Kinds::InTurn, ", chance in turn"), &SOLVE, Some(1.0))?;
+        let named = named(levels, Kinds::InTurn, ", chance in turn");
+        bench.ratio(&named, &SOLVE, most(&named))?;
     }
     table("Chains, ours alone", ["levels", "limit", "solve", "plain", "under 10 ms"]);
     for (levels, limit) in [(15, 0), (31, 0), (31, 64), (40, 64), (50, 64), (62, 64), (63, 64)] {
@@ -120,26 +106,44 @@ pub fn met_again(bench: &mut Bench) -> Done<()> {
     Ok(())
 }
 
+/// What the opening is timed on: the numbering and order of the rows. The last is an adversary's.
+const OPENED: [(&str, fn(Draft) -> Draft); 5] = [
+    ("rows rising", |draft| arranged(draft, Order::Rising)),
+    ("rows falling", |draft| arranged(draft, Order::Falling)),
+    ("rows shuffled", |draft| arranged(draft, Order::Shuffled)),
+    ("entities times 65,536, rows shuffled", |draft| arranged(renumbered(draft, times_65_536), Order::Shuffled)),
+    ("an adversary's numbering, rows shuffled", |draft| in_one_slot(arranged(draft, Order::Shuffled))),
+];
+
 /// The opening alone: the topology check of a sheet whose root is no node ends right after it.
 pub fn opening(bench: &mut Bench) -> Done<()> {
     let sizes = [1, 2, 4, 8, 16, 32, 64].map(|kilobytes| no_root(kilobytes << 10));
+    let lengths = sizes.each_ref().map(|draft| draft.encode().len() as f64);
     let mut columns = Vec::new();
-    for (order, said) in ORDERS {
-        let sheets = sizes.each_ref().map(|draft| Named::of(format!("rows {said}"), arranged(draft.clone(), order)));
+    for (said, numbered) in OPENED {
+        let sheets = sizes.each_ref().map(|draft| Named::of(said, numbered(draft.clone())));
         columns.push(bench.each(&sheets, &Call::Topology)?);
     }
-    table("Opening alone, ns per byte", ["bytes", "rows rising", "rows falling", "rows shuffled"]);
-    let lengths = sizes.map(|draft| draft.encode().len() as f64);
+    let [rising, falling, shuffled, apart, adversarial] = OPENED.map(|(said, _)| said);
+    table("Opening alone, ns per byte", ["bytes", rising, falling, shuffled, apart, adversarial]);
     for (size, length) in lengths.iter().enumerate() {
-        let [rising, falling, shuffled] = [0, 1, 2].map(|order| number(1e3 * columns[order][size].median() / length));
-        row([grouped(*length as u64), rising, falling, shuffled]);
+        let cell = |column: usize| number(1e3 * columns[column][size].median() / length);
+        row([grouped(*length as u64), cell(0), cell(1), cell(2), cell(3), cell(4)]);
     }
     println!("\nLinear: a byte of 64 KB takes at most twice the time of a byte of 4 KB.");
-    for (times, (_, said)) in columns.iter().zip(ORDERS) {
+    for (times, said) in columns.iter().zip([rising, falling, shuffled, apart, adversarial]) {
         let growth = times[6].over(&times[2]) * lengths[2] / lengths[6];
-        let met = bench.report.goal(&format!("opening, rows {said}, growth per byte"), growth, 2.0);
-        println!("- rows {said}: {} times, {met}", number(growth));
+        let met = match said {
+            _ if said == adversarial => "no goal: an adversary's numbering",
+            _ => bench.report.goal(&format!("opening, {said}, growth per byte"), growth, 2.0),
+        };
+        println!("- {said}: {} times, {met}", number(growth));
     }
+    println!(
+        "\nIn an adversary's numbering each row is compared with those above it, so that the time grows with the square: \
+         from 4 to 64 KB by {}.",
+        number(columns[4][6].over(&columns[4][2]))
+    );
     Ok(())
 }
 

@@ -2,6 +2,7 @@
 
 use crate::answer::Call;
 use crate::draft::{row, set_field, Draft};
+use crate::numbering::in_one_slot;
 use crate::random::Random;
 use crate::sheet::*;
 use crate::sheets::*;
@@ -9,15 +10,20 @@ use crate::sheets::*;
 /// A lent buffer that is long enough for every listing of sets.
 pub const AMPLE: usize = 20_000;
 
-/// Each call with no room, so that no listing is written, and the sets with room.
-pub const CALLS: [Call; 6] = [
-    Call::Solve { start: 1, limit: 64 },
-    Call::SolvePlain { start: 1, limit: 64 },
-    Call::Paths { start: 1, limit: 64, room: 0 },
-    Call::Sets { room: 0 },
-    Call::Sets { room: AMPLE },
-    Call::Topology,
-];
+/// How many calls are made on a sheet.
+pub const CALLS: usize = 6;
+
+/// Each call from a sheet's root with no room, so that no listing is written, and the sets with room.
+pub fn calls(start: u32) -> [Call; CALLS] {
+    [
+        Call::Solve { start, limit: 64 },
+        Call::SolvePlain { start, limit: 64 },
+        Call::Paths { start, limit: 64, room: 0 },
+        Call::Sets { room: 0 },
+        Call::Sets { room: AMPLE },
+        Call::Topology,
+    ]
+}
 
 /// The sheets by name, each with its rows in three orders, and in no order with all entities in one slot.
 pub fn list() -> Vec<(String, Vec<u8>)> {
@@ -172,7 +178,7 @@ fn walked(maker: &mut Maker, parent: fn(u32) -> u32, is_chance: bool) {
 }
 
 /// A sheet of any shape that is near the format's limits.
-pub fn any(random: &mut Random) -> Vec<u8> {
+pub fn any(random: &mut Random) -> Draft {
     let levels = random.pick(&[1, 1, 2, 2, 3, 5, 8, 16, 31, 62]);
     let width = random.between(1, 1_000 / (levels + 1));
     let edges = random.between(1, (1_024 - width) / (levels * width));
@@ -193,5 +199,5 @@ pub fn any(random: &mut Random) -> Vec<u8> {
     let excess = draft.encode().len().saturating_sub(LONGEST).div_ceil(WIDTHS[SETS]);
     let kept = draft.sections[SETS].len() - excess;
     draft.sections[SETS].truncate(kept);
-    draft.encode()
+    draft
 }

@@ -8,7 +8,6 @@ use lib.Dec.{lit<}
 use Rattle.rows.specs.Rows.{findRow, foundAt}
 use Rattle.layout.specs.Layout.{width, section, rowCount, rowLimit}
 use Rattle.layout.proofs.LayoutLaws.{rows-most}
-use Rattle.opening.specs.SheetFault.{hasEntity}
 use Rattle.lookup.specs.Hints.{lookedUp}
 use Rattle.graph_relations.specs.RelationRows.{childRow}
 use Rattle.sheet.proofs.OpeningLaws.{opens-layout}
@@ -41,7 +40,7 @@ unfolding width
 u32-field-requires c κs = let p = c .before .before .before .pre in search (needs, opens-layout)
 
 find-row-requires : tie.Need-find-row-requires
-unfolding lookedUp hasEntity
+unfolding lookedUp
 find-row-requires c κs = (c .before .before .before .before .pre .0, refl)
 
 enum-known-r : tie.Need-enum-known-r

@@ -5,18 +5,18 @@ use mathlib.Core.Option.{some}
 use native.Mathlib.Omega.{arith}
 use borrow.Author.Needs.{needs}
 use lib.Dec.{lit<}
-use Rattle.opening.specs.SheetFault.{hasEntity}
 use Rattle.lookup.specs.Hints.{lookedUp}
 use Rattle.game.specs.declared.Kind.{Kind}
 use Rattle.game.specs.declared.Kind.the-variants as Kinds
 use Rattle.game.specs.declared.Node.{Node}
 use Rattle.game.specs.Game.{kindOf}
 use Rattle.sheet.specs.Meaning.{gameOf}
+use Rattle.sheet.specs.Found.{NodeAt}
+use Rattle.sheet.proofs.NodeRows.{node-at, node-missing}
 use Rattle.backward_induction.specs.Solve.{atKind, solve}
 use Rattle.memo.specs.Memo.{rows}
 use Rattle.memo.proofs.VisitLaws.{kept-visits}
-use Rattle.entering.specs.Solving.{NodeAt}
-use Rattle.entering.proofs.Entering.{node-at, node-kind, node-missing, no-depth, no-node, at-terminal, known-visited}
+use Rattle.entering.proofs.Entering.{no-depth, no-node, at-terminal, known-visited}
 use Rattle.entering.proofs.enter.Statement.{statement}
 use Rattle.entering.proofs.enter.Tie as tie
 
@@ -29,10 +29,8 @@ here c =
 
 kind-is : (c : tie.After-node-row) (k : Kind) → c .node-row .result .kind ≡ k → kindOf (gameOf (c .before .before .before .before .before .before .before .before .before .before .before .before .args .sheet .now)) (c .before .before .before .before .before .before .before .before .before .before .before .before .args .entity) ≡ some k
 kind-is c k q =
-    let a = c .before .before .before .before .before .before .before .before .before .before .before .before .args in
-    let found = c .before .before .before .before .before .before .before .find-row in
     let read = sym (ap (λ (n : Node). n .kind) (c .node-row .ensures)) ∙ q in
-    node-kind (a .sheet .now) (a .entity) (found .result) (found .ensures) _ (c .before .before .before .before .before .row .given .1) ∙ ap some read
+    here (c .before .before .before .before .before) .kind ∙ ap some read
 
 refused-requires : tie.Need-refused-requires
 refused-requires c κs = search needs
@@ -44,7 +42,7 @@ returns c =
     record { memo = start .pre .memo; extends = λ i h. h; entered = rw (c .refused .ensures) (no-depth (a .method) (a .sheet .now) (a .entity) (a .left) (c .before .if1 .taken)) }
 
 find-row-requires : tie.Need-find-row-requires
-unfolding lookedUp hasEntity
+unfolding lookedUp
 find-row-requires c κs = (c .before .before .before .before .pre .noted, refl)
 
 enum-known-row : tie.Need-enum-known-row

@@ -2,7 +2,6 @@
 use mathlib.Core.Path.{refl, sym, ap, _∙_}
 use mathlib.Core.Option.{some}
 use borrow.Author.Needs.{needs}
-use Rattle.opening.specs.SheetFault.{hasEntity}
 use Rattle.lookup.specs.Hints.{lookedUp}
 use Rattle.opening.proofs.AcceptedRows.{layout-ok}
 use Rattle.graph_relations.specs.declared.TransitionTo.{TransitionTo}
@@ -12,7 +11,7 @@ use Rattle.graph_relations.proofs.transition_target.Statement.{statemen
 use Rattle.graph_relations.proofs.transition_target.Tie as tie
 
 find-row-requires : tie.Need-find-row-requires
-unfolding lookedUp hasEntity
+unfolding lookedUp
 find-row-requires c κs = (search needs, refl)
 
 enum-known-i : tie.Need-enum-known-i

@@ -1,5 +1,5 @@
 -- `kuhn_of` is the answer of a Kuhn call in its struct.
-use mathlib.Core.Path.{sym, ap, _∙_}
+use mathlib.Core.Path.{sym, ap}
 use borrow.Author.Needs.{needs}
 use Rattle.kuhn.specs.Solve.{answerOf}
 use Rattle.kgs.specs.Interface.{kgsKuhn}

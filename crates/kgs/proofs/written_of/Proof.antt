@@ -1,5 +1,5 @@
 -- `written_of` is the answer of a listing in its struct.
-use mathlib.Core.Path.{sym, ap, _∙_}
+use mathlib.Core.Path.{sym, ap}
 use borrow.Author.Needs.{needs}
 use Rattle.answer.specs.Listing.{answered}
 use Rattle.kgs.specs.Interface.{kgsWritten}

@@ -76,7 +76,7 @@ sub-t17 c = search needs
 returns-2 : tie.Need-returns-2
 unfolding rowCount
 returns-2 c =
-    let h = c .before .names .ensures (c .if2 .taken) in
+    let h = c .before .names .ensures .0 (c .if2 .taken) in
     simp (← c .before .before .width-of .ensures, ← c .before .before .before .section-of .ensures) (find-one _ _ _ (distinct (c .before .before)) _ _ (h .0) (h .1))
 
 find-distinct-requires : tie.Need-find-distinct-requires

@@ -4,62 +4,54 @@ use mathlib.Core.Path.{_≡_, refl, sym, _∙_}
 use mathlib.Core.Bool.{true, true≢false}
 use native.Mathlib.Omega.{arith}
 use borrow.Author.Count.{below-more}
-use borrow.Author.Needs.{needs}
-use borrow.Author.Tests.{not-true, not-false}
 use lib.ListN.{length}
 use Rattle.layout.specs.Layout.{rowCount}
 use Rattle.opening.proofs.AcceptedRows.{layout-ok}
 use Rattle.lookup.specs.Hints.{lookedUp, NotedTo, NotedBelow}
+use Rattle.lookup.proofs.HintLaws.{looked-up, not-looked-up}
 use Rattle.lookup.proofs.note_rows.Statement.{statement}
 use Rattle.lookup.proofs.note_rows.Tie as tie
 
 abbrev Inv-loop : tie.InvT-loop
-Inv-loop sheet hints₀ k₀ hints k = (length hints ≡ length hints₀) × (k ≤ 8) × NotedBelow sheet k hints
+Inv-loop sheet hints₀ k₀ hints k = (length hints ≡ length hints₀) × (k ≤ 6) × NotedBelow sheet k hints
 
 abbrev μ-loop : tie.MeasureT-loop
-μ-loop sheet hints₀ k₀ hints k = 8 - k
+μ-loop sheet hints₀ k₀ hints k = 6 - k
 
 loop-holds : tie.Need-loop-holds Inv-loop μ-loop
 loop-holds c = (refl, omega arith, λ j l. absurd (omega arith))
 
-is-looked-up-requires : tie.Need-is-looked-up-requires Inv-loop μ-loop
-is-looked-up-requires c κs = search needs
-
 add-k : tie.Need-add-k Inv-loop μ-loop
-add-k c = omega (arith, c .before .before .loop-test .taken)
+add-k c = omega (arith, (c .before) .loop-test .taken)
 
 loop-less : tie.Need-loop-less Inv-loop μ-loop
-loop-less c = omega (arith, c .before .before .loop-test .taken)
+loop-less c = omega (arith, (c .before) .loop-test .taken)
 
 loop-again : tie.Need-loop-again Inv-loop μ-loop
 loop-again c =
-    let l = c .before .before .before .loop in (
+    let l = (c .before .before) .loop in (
       l .inv .0,
-      omega (arith, c .before .before .loop-test .taken),
-      below-more (λ (j : ℕ). lookedUp j ≡ true → NotedTo _ j (rowCount _ j) (l .hints)) (l .k) (l .inv .2)
-          (λ e. absurd (true≢false (sym e ∙ sym (c .before .is-looked-up .ensures) ∙ not-true _ (c .if1 .taken)))),
+      omega (arith, (c .before) .loop-test .taken),
+      below-more (λ (j : ℕ). lookedUp j ≡ true → NotedTo _ j (rowCount _ j) (l .hints)) (l .k) (l .inv .2) (λ e. absurd (true≢false (sym (rw (c .if1 .taken) at e) ∙ not-looked-up))),
     )
 
 note-section-requires : tie.Need-note-section-requires Inv-loop μ-loop
 note-section-requires c κs =
-    let p = c .before .before .before .before .before .before .before .pre in (
-      layout-ok _ (p .0),
-      sym (c .before .before .is-looked-up .ensures) ∙ not-false _ (c .before .if1 .left),
-      omega (arith, p .1, c .before .before .before .before .loop .inv .0),
-    )
+    let p = (c .before .before .before .before .before .before) .pre in
+    (layout-ok _ (p .0), looked-up _ ((c .before .before) .loop-test .taken) ((c .before) .if1 .left), omega (arith, p .1, (c .before .before .before) .loop .inv .0))
 
 add-k-2 : tie.Need-add-k-2 Inv-loop μ-loop
-add-k-2 c = omega (arith, c .before .before .before .before .before .before .loop-test .taken)
+add-k-2 c = omega (arith, (c .before .before .before .before .before) .loop-test .taken)
 
 loop-less-2 : tie.Need-loop-less-2 Inv-loop μ-loop
-loop-less-2 c = omega (arith, c .before .before .before .before .before .before .loop-test .taken)
+loop-less-2 c = omega (arith, (c .before .before .before .before .before) .loop-test .taken)
 
 loop-again-2 : tie.Need-loop-again-2 Inv-loop μ-loop
 loop-again-2 c =
-    let l = c .before .before .before .before .before .before .before .loop in
-    let noted = c .before .before .note-section in (
+    let l = (c .before .before .before .before .before .before) .loop in
+    let noted = (c .before .before) .note-section in (
       noted .kept .1 .0 ∙ l .inv .0,
-      omega (arith, c .before .before .before .before .before .before .loop-test .taken),
+      omega (arith, (c .before .before .before .before .before) .loop-test .taken),
       below-more (λ (j : ℕ). lookedUp j ≡ true → NotedTo _ j (rowCount _ j) (noted .last .1 .0)) (l .k)
           (λ j h e i r. noted .ensures .1 _ _ (l .inv .2 j h e i r))
           (λ e. noted .ensures .0),
@@ -81,7 +73,6 @@ note-rows-spec =
     Inv-loop
     μ-loop
     loop-holds
-    is-looked-up-requires
     add-k
     loop-less
     loop-again

@@ -3,7 +3,6 @@ use Prim.Native.Nat.{ℕ, _+_, _-_, _<_, _≤_}
 use mathlib.Core.Path.{_≡_, refl, _∙_}
 use native.Mathlib.Omega.{arith}
 use borrow.Author.Count.{below-more}
-use borrow.Author.Needs.{needs}
 use lib.ListN.{length}
 use Rattle.layout.specs.Layout.{rowCount, field}
 use Rattle.layout.proofs.LayoutLaws.{size-least, rows-bound}

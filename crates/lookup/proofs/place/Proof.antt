@@ -1,5 +1,4 @@
 -- `place` tells an entity's hints apart by section.
-use mathlib.Core.Path.{refl}
 use borrow.Author.Tests.{lt-ltb, le-ltb, eq-eqb, ne-eqb}
 use lib.Dec.{lit<}
 use Rattle.lookup.specs.Hints.{placeOf}

@@ -1,10 +1,18 @@
 -- `slot` answers the place of a hint.
 use mathlib.Core.Path.{refl}
-use native.Mathlib.Omega.{arith}
 use borrow.Author.Needs.{needs}
-use Rattle.lookup.specs.Hints.{slotOf}
+use Rattle.lookup.specs.Hints.{folded, slotOf}
 use Rattle.lookup.proofs.slot.Statement.{statement}
 use Rattle.lookup.proofs.slot.Tie as tie
+
+add-result : tie.Need-add-result
+add-result c = search needs
+
+add-result-2 : tie.Need-add-result-2
+add-result-2 c = search needs
+
+add-result-3 : tie.Need-add-result-3
+add-result-3 c = search needs
 
 mul-result : tie.Need-mul-result
 mul-result c = search needs
@@ -12,15 +20,25 @@ mul-result c = search needs
 place-requires : tie.Need-place-requires
 place-requires c κs = search needs
 
-add-result : tie.Need-add-result
-add-result c = omega (arith, c .place .ensures .1)
+add-result-4 : tie.Need-add-result-4
+add-result-4 c = search needs
 
 sub-result : tie.Need-sub-result
 sub-result c = search needs
 
 returns : tie.Need-returns
-unfolding slotOf
+unfolding slotOf folded
 returns c = rw (c .place .ensures .0) refl
 
 pub slot-spec : {M : Type 1} → statement M
-slot-spec = tie.close (tie.spec mul-result place-requires add-result sub-result returns)
+slot-spec =
+    tie.close
+    (tie.spec
+    add-result
+    add-result-2
+    add-result-3
+    mul-result
+    place-requires
+    add-result-4
+    sub-result
+    returns)

@@ -1,13 +1,14 @@
 -- `check_sections` answers the first fault among sections 8, 9, 0 to 7. The loop's invariant: the sections so far pass.
 use Prim.Native.Nat.{ℕ, _+_, _-_, _%_, _≤_}
 use mathlib.Core.Option.{none}
-use mathlib.Core.Path.{_≡_}
+use mathlib.Core.Path.{_≡_, sym, _∙_}
 use native.Mathlib.Omega.{arith}
 use borrow.Author.Needs.{needs}
 use Rattle.answer.specs.Fault.{first}
 use Rattle.answer.proofs.FaultLaws.{first-zero}
 use Rattle.answer.proofs.Loops.{passed-on, refused-at, all-passed}
 use Rattle.opening.specs.SheetFault.{rowsFault}
+use Rattle.opening.proofs.CheckOrder.{in-turn}
 use Rattle.opening.proofs.check_sections.Statement.{statement}
 use Rattle.opening.proofs.check_sections.Tie as tie
 
@@ -30,7 +31,8 @@ enum-told : tie.Need-enum-told Inv-loop μ-loop
 enum-told c = search needs
 
 returns : tie.Need-returns Inv-loop μ-loop
-returns c = refused-at _ _ (c .before .before .before .before .loop .inv .1) 10 _ _ (search needs) (c .before .before .check-section .ensures) (c .enum-told .given .1)
+returns c =
+    refused-at _ _ (c .before .before .before .before .loop .inv .1) 10 _ _ (search needs) (c .before .before .check-section .ensures) (c .enum-told .given .1) ∙ sym (in-turn _)
 
 enum-told-2 : tie.Need-enum-told-2 Inv-loop μ-loop
 enum-told-2 c = search needs
@@ -45,7 +47,7 @@ loop-again : tie.Need-loop-again Inv-loop μ-loop
 loop-again c = (omega arith, passed-on _ _ (c .before .before .before .before .loop .inv .1) _ (c .before .before .check-section .ensures) (c .enum-told2 .given .1))
 
 returns-2 : tie.Need-returns-2 Inv-loop μ-loop
-returns-2 c = all-passed _ _ (c .before .loop .inv .1) 10 (search needs) (search needs)
+returns-2 c = all-passed _ _ (c .before .loop .inv .1) 10 (search needs) (search needs) ∙ sym (in-turn _)
 
 pub check-sections-spec : {M : Type 1} → statement M
 check-sections-spec =

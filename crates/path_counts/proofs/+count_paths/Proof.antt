@@ -11,7 +11,8 @@ use Rattle.edges.specs.Steps.{actionStep}
 use Rattle.sheet.proofs.OpeningLaws.{opens-layout}
 use Rattle.edges.proofs.action_edge.Reads as action-edge-reads
 use Rattle.layout.proofs.row_count.Reads as row-count-reads
-use Rattle.path_counts.specs.Counts.{Memo, RowOf}
+use Rattle.sheet.specs.Found.{NodeAt}
+use Rattle.path_counts.specs.Counts.{Memo}
 use Rattle.path_counts.proofs.EdgeRows.{passed-by}
 use Rattle.path_counts.proofs.CountLaws.{counts-capped}
 use Rattle.path_counts.proofs.MemoLaws.{entered-done, entered-inner, visited-counted, visited-refused, refused-visits, row-within}
@@ -41,7 +42,7 @@ abbrev calls : ℕ → lts.Claims
 calls t = (enter-reads.Asked, enter-reads.Learnt, row-count-reads.Asked, row-count-reads.Learnt, action-edge-reads.Asked, action-edge-reads.Learnt, below t, reads.Post, tallied-reads.Asked, tallied-reads.Learnt, keep-tally-reads.Asked, keep-tally-reads.Learnt)
 
 abbrev Inv-loop : lts.InvT-loop
-Inv-loop sheet hints memo₀ entity left row n tally₀ i₀ memo tally i = Memo sheet memo × (length memo ≡ length memo₀) × RowOf sheet entity row × Following sheet entity left n i tally
+Inv-loop sheet hints memo₀ entity left row n tally₀ i₀ memo tally i = Memo sheet memo × (length memo ≡ length memo₀) × NodeAt sheet row entity × Following sheet entity left n i tally
 
 abbrev μ-loop : lts.MeasureT-loop
 μ-loop sheet hints memo₀ entity left row n tally₀ i₀ memo tally i = n - i
@@ -109,7 +110,7 @@ tallied-requires : (t : ℕ) → lts.Need-tallied-requires (calls t) (entry t) r
 tallied-requires t c κs =
     let visits = c .before .before .before .before .before .count-paths .ensures in
     let found = visited-counted visits _ (c .before .before .v .given .1) in
-    (row-within (visits .memo) (found .own), counts-capped (c .before .before .before .before .before .before .before .before .before .before .before .before .loop .inv .3 .counts), counts-capped (visits .memo .right _ (found .own .row) (found .counted) .counts))
+    (row-within (visits .memo) (found .own), counts-capped (c .before .before .before .before .before .before .before .before .before .before .before .before .loop .inv .3 .counts), counts-capped (visits .memo .right _ (found .own .here) (found .counted) .counts))
 
 add-i-2 : (t : ℕ) → lts.Need-add-i-2 (calls t) (entry t) reads.Post Inv-loop μ-loop
 add-i-2 t c = omega (arith, c .before .before .before .before .before .before .before .before .before .before .before .before .loop-test)

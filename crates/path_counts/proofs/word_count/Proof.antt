@@ -19,10 +19,10 @@ enum-known-row : tie.Need-enum-known-row
 enum-known-row c = search needs
 
 mul-counts : tie.Need-mul-counts
-mul-counts c = omega (arith, visited-counted (c .before .before .before .before .count-paths .ensures) _ (c .before .row .given .1) .own .row, few-nodes _ (c .before .before .before .before .before .before .before .before .pre .0 .opens))
+mul-counts c = omega (arith, visited-counted (c .before .before .before .before .count-paths .ensures) _ (c .before .row .given .1) .own .here, few-nodes _ (c .before .before .before .before .before .before .before .before .pre .0 .opens))
 
 array-copy-out-counts : tie.Need-array-copy-out-counts
-array-copy-out-counts c = omega (arith, visited-counted (c .before .before .before .before .count-paths .ensures) _ (c .before .row .given .1) .own .row, few-nodes _ (c .before .before .before .before .before .before .before .before .pre .0 .opens))
+array-copy-out-counts c = omega (arith, visited-counted (c .before .before .before .before .count-paths .ensures) _ (c .before .row .given .1) .own .here, few-nodes _ (c .before .before .before .before .before .before .before .before .pre .0 .opens))
 
 array-read-t14 : tie.Need-array-read-t14
 array-read-t14 c = search needs

@@ -1,7 +1,5 @@
 -- `is_named` tells whether the search finds a row.
-use mathlib.Core.Path.{sym, ap}
 use borrow.Author.Needs.{needs}
-use Rattle.rows.specs.Rows.{isSome}
 use Rattle.repeats.proofs.is_named.Statement.{statement}
 use Rattle.repeats.proofs.is_named.Tie as tie
 

@@ -8,8 +8,8 @@ use Rattle.repeats.proofs.note_row.Tie as tie
 field-requires : tie.Need-field-requires
 field-requires c κs = search needs
 
-cast-slot : tie.Need-cast-slot
-cast-slot c = search needs
+slot-requires : tie.Need-slot-requires
+slot-requires c κs = search needs
 
 mul-befores : tie.Need-mul-befores
 mul-befores c = search needs
@@ -43,14 +43,14 @@ same-length-2 c = search needs
 
 returns : tie.Need-returns
 unfolding slotAt
-returns c = rw (c .before .field .ensures) (noted _ _ _ _ _ (c .before .before .before .before .before .pre .1) (c .before .before .before .before .before .pre .3))
+returns c = let p = (c .before .before .before .before .before .before) .pre in rw ((c .before) .slot .ensures .0, (c .before .before) .field .ensures) (noted _ _ _ _ _ (p .1) (p .3))
 
 pub note-row-spec : {M : Type 1} → statement M
 note-row-spec =
     tie.close
     (tie.spec
     field-requires
-    cast-slot
+    slot-requires
     mul-befores
     slice-read-befores
     mul-befores-2

@@ -3,7 +3,6 @@ use native.Mathlib.Omega.{arith}
 use borrow.Author.Needs.{needs}
 use Rattle.sheet.proofs.OpeningLaws.{opens-layout, passed-opens, refused-opening}
 use Rattle.backward_induction.specs.declared.Method.the-variants.{ChanceWeighted}
-use Rattle.report.proofs.LineLaws.{starts-with}
 use Rattle.report.proofs.HeldLaws.{solution-printable, printed-refused, printed-held}
 use Rattle.report.proofs.report.Statement.{statement}
 use Rattle.report.proofs.report.Tie as tie
@@ -21,7 +20,7 @@ returns : tie.Need-returns
 returns c =
     let s = c .before .before .before .before .before .before .before .args .sheet .now in
     rw (printed-refused s _ (refused-opening s _ (c .before .before .before .before .before .open .ensures) _ (c .before .before .before .opened .given .1)))
-    (starts-with _ _ (c .put-refusal .ensures))
+    (c .put-refusal .ensures)
 
 enum-told : tie.Need-enum-told
 enum-told c = search needs
@@ -40,7 +39,7 @@ put-answer-requires c κs =
 returns-2 : tie.Need-returns-2
 returns-2 c =
     let s = c .before .before .before .before .before .before .before .before .args .sheet .now in
-    rw (← printed-held s _ _ (c .before .before .before .root-of .ensures) (c .before .before .solve .ensures)) (starts-with _ _ (c .put-answer .ensures))
+    rw (← printed-held s _ _ (c .before .before .before .root-of .ensures) (c .before .before .solve .ensures)) (c .put-answer .ensures)
 
 pub report-spec : {M : Type 1} → statement M
 report-spec =

@@ -5,10 +5,15 @@ use mathlib.Core.List.{List}
 use native.Mathlib.Omega.{arith}
 use borrow.Author.Needs.{needs}
 use lib.ListN.{length, take, length-take}
+use Rattle.report.specs.Writes.{Writes}
+use Rattle.report.proofs.LineLaws.{starts-with}
 use Rattle.solve.proofs.main.Statement.{statement}
 use Rattle.solve.proofs.main.Tie as tie
 
-module _ (n : ℕ) (out text : List ℕ) (made : (n ≡ length text) × (take n out ≡ text)) where
+module _ (n : ℕ) (before out text : List ℕ) (writes : Writes before 0 text out n) where
+  made : (n ≡ length text) × (take n out ≡ text)
+  made = starts-with before text writes
+
   counted : n ≡ length (take n out)
   counted = made .0 ∙ sym (ap length (made .1))
 
@@ -31,10 +36,10 @@ report-requires : tie.Need-report-requires
 report-requires c κs = search needs
 
 array-share-prefix-out : tie.Need-array-share-prefix-out
-array-share-prefix-out c = within _ _ _ (c .report .ensures)
+array-share-prefix-out c = within _ _ _ _ (c .report .ensures)
 
 slice-aggregate-write-all : tie.Need-slice-aggregate-write-all
-slice-aggregate-write-all c = counted _ _ _ (c .before .report .ensures)
+slice-aggregate-write-all c = counted _ _ _ _ (c .before .report .ensures)
 
 write-all-requires : tie.Need-write-all-requires
 write-all-requires c κs = search needs

@@ -50,7 +50,7 @@ ready : (t : ℕ) (c : lts.After-entered2 (calls t) (node-is t) reads.Post Inv-l
 ready t c = entered-new _ _ _ _ _ (c .before .before .enter .ensures) _ (c .entered2 .given .1)
 
 has-mark : (t : ℕ) (c : lts.After-entered2 (calls t) (node-is t) reads.Post Inv-loop μ-loop) → c .entered2 .given .0 .0 < 1024
-has-mark t c = omega (arith, ready t c .node .within, few-nodes _ (c .before .before .before .before .before .before .pre .1 .opens))
+has-mark t c = omega (arith, ready t c .node .here, few-nodes _ (c .before .before .before .before .before .before .pre .1 .opens))
 
 -- what the code knows in its loop
 walking : (t : ℕ) (c : lts.At-loop (calls t) (node-is t) reads.Post Inv-loop μ-loop) → Walking (now (c .before .before .before .before .before .before .before .before .before .args .sheet)) (c .before .before .before .before .before .before .before .before .before .args .left) (c .before .before .before .before .before .before .before .before .before .args .left - 1) (c .before .before .before .before .before .before .before .before .before .args .entity) (now (c .before .before .before .before .before .before .before .before .before .args .marks)) (c .before .before .before .entered2 .given .0 .0) (c .before .row-count .result)

@@ -4,11 +4,11 @@ use mathlib.Core.Path.{_≡_, refl}
 use native.Mathlib.Omega.{arith}
 use borrow.Author.Needs.{needs}
 use denote.Ref.{now}
-use Rattle.opening.specs.SheetFault.{hasEntity}
 use Rattle.lookup.specs.Hints.{lookedUp}
 use Rattle.sheet.proofs.OpeningLaws.{few-nodes}
-use Rattle.topology.specs.Marks.{NodeAt}
-use Rattle.topology.proofs.NodeRows.{node-at, not-at}
+use Rattle.sheet.specs.Found.{NodeAt}
+use Rattle.sheet.proofs.NodeRows.{node-at, node-missing}
+use Rattle.topology.proofs.WalkLaws.{missing-is}
 use Rattle.topology.proofs.VisitLaws.{visit-spent, visit-missing, visit-cycle, visit-again, visit-kind, kind-passed}
 use Rattle.topology.proofs.enter.Statement.{statement}
 use Rattle.topology.proofs.enter.Tie as tie
@@ -18,11 +18,11 @@ deep : (c : tie.Else1) → c .before .before .before .args .left ≡ suc (c .bef
 deep c = omega (arith, c .if1 .left)
 
 -- the row that was found is the entity's, and has a mark
-found : (c : tie.After-row) → NodeAt (now (c .before .before .before .before .before .before .args .sheet)) (c .before .before .before .before .before .before .args .entity) (c .row .given .0 .0)
+found : (c : tie.After-row) → NodeAt (now (c .before .before .before .before .before .before .args .sheet)) (c .row .given .0 .0) (c .before .before .before .before .before .before .args .entity)
 found c = node-at _ _ _ (c .before .before .find-row .ensures) _ (c .row .given .1)
 
 has-mark : (c : tie.After-row) → c .row .given .0 .0 < 1024
-has-mark c = omega (arith, found c .within, few-nodes _ (c .before .before .before .before .before .before .pre .opens))
+has-mark c = omega (arith, found c .here, few-nodes _ (c .before .before .before .before .before .before .pre .opens))
 
 refuse-requires : tie.Need-refuse-requires
 refuse-requires c κs = search needs
@@ -31,7 +31,7 @@ returns : tie.Need-returns
 returns c = visit-spent _ _ _ _ _ _ (c .before .if1 .taken)
 
 find-row-requires : tie.Need-find-row-requires
-unfolding lookedUp hasEntity
+unfolding lookedUp
 find-row-requires c κs = (search needs, refl)
 
 enum-known-row : tie.Need-enum-known-row
@@ -45,7 +45,7 @@ refuse-requires-2 c κs = search needs
 
 returns-2 : tie.Need-returns-2
 returns-2 c =
-    visit-missing _ _ _ _ _ (deep (c .before .before .before .before)) _ _ (not-at _ _ _ (c .before .before .before .find-row .ensures) (c .before .enum-told .given .1)) (c .refuse2 .ensures)
+    visit-missing _ _ _ _ _ (deep (c .before .before .before .before)) _ _ (missing-is _ _ (node-missing _ _ _ (c .before .before .before .find-row .ensures) (c .before .enum-told .given .1))) (c .refuse2 .ensures)
 
 element-copy-out-if2 : tie.Need-element-copy-out-if2
 element-copy-out-if2 c = has-mark (c .before)
@@ -64,7 +64,7 @@ returns-4 : tie.Need-returns-4
 returns-4 c = visit-again _ _ _ _ _ (deep (c .before .before .before .before .before .before .before .before)) _ (found (c .before .before .before .before .before)) (c .if3 .taken)
 
 node-row-requires : tie.Need-node-row-requires
-node-row-requires c κs = (c .before .before .before .before .before .before .before .before .before .before .before .pre .opens, found (c .before .before .before .before .before) .within)
+node-row-requires c κs = (c .before .before .before .before .before .before .before .before .before .before .before .pre .opens, found (c .before .before .before .before .before) .here)
 
 check-kind-requires : tie.Need-check-kind-requires
 check-kind-requires c κs = search needs

@@ -1,0 +1,96 @@
+//! The tables of sheets at the format's limits, of entities numbered in other ways, and of what no goal holds.
+
+use crate::answer::Call;
+use crate::bench::{Bench, Done, Named};
+use crate::draft::Draft;
+use crate::numbering::{in_one_slot, renumbered, NATURAL};
+use crate::report::{table, NOT_REACHED};
+use crate::sheets::*;
+use crate::tables::{most, COLUMNS, PATHS, PLAIN, SOLVE};
+use crate::worst::sets_of;
+use std::fs;
+
+pub fn limits(bench: &mut Bench) -> Done<()> {
+    largest(bench)?;
+    numbered_otherwise(bench)?;
+    not_reached(bench)
+}
+
+const OUTCOMES: &str = "1,024 outcomes to one terminal";
+
+/// A node with 1,024 edges to one terminal.
+fn one_node(kind: Kinds) -> Draft {
+    made(|maker| maker.chain(1, 1_024, kind))
+}
+
+/// Sheets at the format's limits in each order of their rows: both solves and paths. A chance root, which the plain
+/// solve refuses at once, is in `not_reached`.
+fn largest(bench: &mut Bench) -> Done<()> {
+    let limits = [
+        ("binary tree of 10 levels", Kinds::Decisions, full_tree(10, 2, Kinds::Decisions)),
+        ("1,024 replies to one terminal", Kinds::Decisions, one_node(Kinds::Decisions)),
+        (OUTCOMES, Kinds::Chances, one_node(Kinds::Chances)),
+        ("65,536 bytes, 1,000 replies", Kinds::Decisions, longest_replies()),
+        ("65,536 bytes, most of them not met by the solve", Kinds::Decisions, mostly_unmet()),
+    ];
+    table("Sheets at the format's limits", COLUMNS);
+    for (name, kinds, draft) in limits {
+        for (order, said) in ORDERS {
+            let named = Named::of(format!("{name}, rows {said}"), arranged(draft.clone(), order));
+            bench.ratio(&named, &SOLVE, most(&named))?;
+            if kinds == Kinds::Decisions {
+                bench.ratio(&named, &PLAIN, most(&named))?;
+            }
+            bench.no_goal(&named, &PATHS)?;
+        }
+    }
+    Ok(())
+}
+
+/// Entities that do not go up by one, in numberings that a caller may well have. The library's table of lookups has
+/// three sizes, and each has a sheet here.
+fn numbered_otherwise(bench: &mut Bench) -> Done<()> {
+    let sheets = [
+        ("binary tree of 5 levels", full_tree(5, 2, Kinds::Decisions)),
+        ("binary tree of 9 levels", full_tree(9, 2, Kinds::Decisions)),
+        ("1,000 replies", full_tree(2, 1_000, Kinds::Decisions)),
+        ("a line of 63 decisions", made(|maker| maker.chain(63, 1, Kinds::Decisions))),
+    ];
+    table("Entities numbered in other ways", COLUMNS);
+    for (name, draft) in sheets {
+        for (numbers, number) in NATURAL {
+            let draft = renumbered(draft.clone(), number);
+            for (order, said) in [(Order::Rising, "rising"), (Order::Shuffled, "shuffled")] {
+                let named = Named::of(format!("{name}, {numbers}, rows {said}"), arranged(draft.clone(), order));
+                bench.ratio(&named, &Call::Solve { start: named.root(), limit: 64 }, most(&named))?;
+            }
+        }
+    }
+    Ok(())
+}
+
+/// Sheets that are held to no ratio, and why it is not reached.
+fn not_reached(bench: &mut Bench) -> Done<()> {
+    let crowded = |name, draft| {
+        let name = format!("{name}, an adversary's numbering, rows shuffled");
+        Named::of(name, in_one_slot(arranged(draft, Order::Shuffled)))
+    };
+    let fixed = "Most of the time is the same for any sheet: tables are cleared, the answer is copied.";
+    let two_nodes = "Opening reads every byte, and the Rust's solve visits two nodes.";
+    let refused = "Opening reads every byte, and the Rust's solve is refused at the root.";
+    let one_slot = "All share one slot: opening compares each row with those above it, and lookups end in scans.";
+    let solved = [
+        (Named::new("01's small sheet", fs::read("samples/worked.kgs")?), fixed),
+        (Named::of("1,023 nodes in sets, one edge from the root", sets_of(1_023, 1, 1_023, 2, 2_000)), two_nodes),
+        (crowded("1,000 replies", full_tree(2, 1_000, Kinds::Decisions)), one_slot),
+        (crowded("binary tree of 9 levels", full_tree(9, 2, Kinds::Decisions)), one_slot),
+    ];
+    let mut columns = COLUMNS;
+    columns[7] = "why";
+    table(NOT_REACHED, columns);
+    for (named, why) in solved {
+        bench.not_reached(&named, &Call::Solve { start: named.root(), limit: 0 }, most(&named), why)?;
+    }
+    let outcomes = Named::of(OUTCOMES, one_node(Kinds::Chances));
+    bench.not_reached(&outcomes, &PLAIN, most(&outcomes), refused)
+}
