@@ -4,13 +4,13 @@
     tests/make_samples.py            writes the files
     tests/make_samples.py --check    writes nothing; fails where a file is not what would be written
 
-Three parts. `Sheet` turns a description (nodes, edges, payoffs) into bytes. `opened`, `solved` and `printed` read document
+Three parts. `Sheet` turns a description (nodes, edges, payoffs) into bytes. `opened`, `Game` and `printed` read document
 01 and nothing else: they share no text with the crates, and Python's floats are IEEE 754 doubles, each product and each sum
-rounded once. `samples` has the descriptions; a sheet that is to be refused is most often another one with a field changed.
+rounded once. `SOLUTIONS` and `REFUSALS` have the descriptions; a sheet that is to be refused is most often another one with
+a field changed.
 """
 import struct
 import sys
-from functools import lru_cache
 from math import inf, isfinite, nan
 from pathlib import Path
 
@@ -181,48 +181,55 @@ def number(bits):
 
 # ---- document 01: the chance-weighted solve with limit 0
 
-def solved(root, rows):
-    """The terminal or None, the label numbers and the payoffs; or the first refusal.
+class Game:
+    """The game that a sheet's rows mean, and its solve: `visit` gives the terminal or None, the label numbers and the
+    payoffs; or the first refusal. A node's answer with so much depth is worked out once and kept: that is the same answer
+    at each visit."""
 
-    A node's answer with so much depth is worked out once and kept: that is the same answer at each visit."""
-    kinds = {entity: (kind, player) for entity, kind, player in rows[NODES]}
-    targets = dict(rows[TRANSITIONS])
-    edge_rows = {ACTIONS: {r[0]: r for r in rows[ACTIONS]}, CHANCES: {r[0]: r for r in rows[CHANCES]}}
-    payoffs, first = {}, 0
-    for entity, count in rows[TERMINALS]:
-        payoffs[entity] = [number(bits) for bits, in rows[PAYOFFS][first:first + count]]
-        first += count
+    def __init__(self, rows):
+        self.kinds = {entity: (kind, player) for entity, kind, player in rows[NODES]}
+        self.children = rows[CHILDREN]
+        self.targets = dict(rows[TRANSITIONS])
+        self.edge_rows = {section: {row[0]: row for row in rows[section]} for section in (ACTIONS, CHANCES)}
+        self.payoffs, first = {}, 0
+        for entity, count in rows[TERMINALS]:
+            self.payoffs[entity] = [number(bits) for bits, in rows[PAYOFFS][first:first + count]]
+            first += count
+        self.known = {}
 
-    def edges(section, source):
+    def edges(self, section, source):
         found = []
-        for edge, parent in rows[CHILDREN]:
-            if parent == source and edge in edge_rows[section]:
-                row = edge_rows[section][edge]
-                if edge not in targets:
-                    raise Refused(14, edge)
-                if row[2] != targets[edge]:
-                    raise Refused(15, edge, row[2], targets[edge])
-                found.append(row)
+        for edge, parent in self.children:
+            if parent != source or edge not in self.edge_rows[section]:
+                continue
+            row = self.edge_rows[section][edge]
+            if edge not in self.targets:
+                raise Refused(14, edge)
+            if row[2] != self.targets[edge]:
+                raise Refused(15, edge, row[2], self.targets[edge])
+            found.append(row)
         return found
 
-    @lru_cache(maxsize=None)
-    def visit(entity, depth):
+    def visit(self, entity, depth):
         if depth > 32:
             raise Refused(24, entity)
-        if entity not in kinds:
+        if entity not in self.kinds:
             raise Refused(11, entity)
-        kind, player = kinds[entity]
-        return [decision, chance, terminal][kind](entity, depth, player)
+        if (entity, depth) not in self.known:
+            kind, player = self.kinds[entity]
+            answer = [self.decision, self.chance, self.terminal][kind]
+            self.known[entity, depth] = answer(entity, depth, player)
+        return self.known[entity, depth]
 
-    def terminal(entity, depth, player):
-        if entity not in payoffs:
+    def terminal(self, entity, depth, player):
+        if entity not in self.payoffs:
             raise Refused(13, entity)
-        return entity, [], payoffs[entity]
+        return entity, [], self.payoffs[entity]
 
-    def decision(entity, depth, player):
+    def decision(self, entity, depth, player):
         best = None
-        for _, label, target in edges(ACTIONS, entity):
-            end, labels, values = visit(target, depth + 1)
+        for _, label, target in self.edges(ACTIONS, entity):
+            end, labels, values = self.visit(target, depth + 1)
             if player >= len(values):
                 raise Refused(18, target if end is None else end, player)
             if best is None or values[player] > best[2][player]:
@@ -231,10 +238,10 @@ def solved(root, rows):
             raise Refused(16, entity)
         return best
 
-    def chance(entity, depth, player):
+    def chance(self, entity, depth, player):
         sums = None
-        for _, _, target, bits in edges(CHANCES, entity):
-            values = visit(target, depth + 1)[2]
+        for _, _, target, bits in self.edges(CHANCES, entity):
+            values = self.visit(target, depth + 1)[2]
             products = [number(bits) * x for x in values]
             if sums is None:
                 sums = products
@@ -248,14 +255,12 @@ def solved(root, rows):
             raise Refused(25, entity)
         return None, [], sums
 
-    return visit(root, 1)
-
 
 def printed(data):
     """What the program prints. It reads no further than 65,537 bytes."""
     try:
         root, rows = opened(data[:65537])
-        end, labels, values = solved(root, rows)
+        end, labels, values = Game(rows).visit(root, 1)
     except Refused as r:
         return ("refused" + "".join(f" {x}" for x in r.args + (0,) * (5 - len(r.args))) + "\n").encode()
     text = bytes(b for b, in rows[TEXT])
@@ -327,7 +332,8 @@ def solutions():
     yield "greatest_entity", (Sheet(4294967295).decision(4294967295, 0).terminal(4294967294, 1)
                               .action(4294967293, 4294967295, "only", 4294967294))
 
-    # floats
+
+def solutions_by_floats():
     yield "minus_zero", choice(0, [-0.0], [0.0])
     yield "minus_zero_sum", lottery([0.5, -0.0, -0.0, 1], [0.5, -0.0, 0.0, -1])
     # in chance-row order, with one rounding for each outcome or with one in all, the last bit is another
@@ -338,7 +344,8 @@ def solutions():
     yield "subnormal", lottery([0.5, LEAST, 3 * LEAST], [0.75, LEAST, -LEAST])
     yield "greatest_payoff", lottery([0.5, GREATEST], [0.5, GREATEST])
 
-    # labels
+
+def solutions_by_labels():
     unused = worked()
     for text in ("", "never", "open", ""):
         unused.add_label(text)
@@ -347,6 +354,8 @@ def solutions():
     yield "label_characters", ladder(1, [characters])
     yield "longest_label", ladder(3, [(characters * 44)[:4096]])
 
+
+def solutions_by_walk():
     # what the solve does not visit does not matter
     unvisited = worked().decision(50, 0).row(NODES, "III", 51, 2, 0).action(60, 51, "open", 99).member(1, 0, 7).member(50, 3, 7)
     yield "unvisited_faults", unvisited
@@ -356,81 +365,88 @@ def solutions():
     yield "ladder_of_31_levels", ladder(31)
 
 
-def refusals():
-    base = worked().bytes()
+BASE = worked().bytes()
 
-    def at(section, row, field):
-        return place(base, section, row, field)
 
-    # size, mark, edition, layout
+def at(section, row, field):
+    return place(BASE, section, row, field)
+
+
+def refused_layouts():
+    """1 to 4: size, mark, edition, layout."""
     yield "refused_01_empty", b""
-    yield "refused_01_header_cut_short", base[:91]
+    yield "refused_01_header_cut_short", BASE[:91]
     yield "refused_02_zeros", bytes(92)
-    yield "refused_02_mark", changed(base, "B", 3, 0x32)
-    yield "refused_03_edition_0", changed(base, "H", 4, 0)
-    yield "refused_03_edition_2", changed(base, "H", 4, 2)
-    yield "refused_04_zero_u16", changed(base, "H", 6, 256)
-    yield "refused_04_first_offset", changed(base, "I", 12, 93)
-    yield "refused_04_gap_between_sections", changed(base, "I", 12 + 8 * 5, place(base, 5, 0, 1))
-    yield "refused_04_part_row", changed(base, "I", 16 + 8 * 3, 39)
-    yield "refused_04_too_many_rows", changed(base, "I", 16 + 8 * 8, 8 * 257)
-    yield "refused_04_cut_short", base[:-1]
-    yield "refused_04_byte_after_the_text", base + b" "
+    yield "refused_02_mark", changed(BASE, "B", 3, 0x32)
+    yield "refused_03_edition_0", changed(BASE, "H", 4, 0)
+    yield "refused_03_edition_2", changed(BASE, "H", 4, 2)
+    yield "refused_04_zero_u16", changed(BASE, "H", 6, 256)
+    yield "refused_04_first_offset", changed(BASE, "I", 12, 93)
+    yield "refused_04_gap_between_sections", changed(BASE, "I", 12 + 8 * 5, place(BASE, 5, 0, 1))
+    yield "refused_04_part_row", changed(BASE, "I", 16 + 8 * 3, 39)
+    yield "refused_04_too_many_rows", changed(BASE, "I", 16 + 8 * 8, 8 * 257)
+    yield "refused_04_cut_short", BASE[:-1]
+    yield "refused_04_byte_after_the_text", BASE + b" "
     many = worked()
     for n in range(1020):
         many.terminal(1000 + n, 0)
     yield "refused_04_1025_nodes", many
 
-    # faults of 5, and which of several is named
-    yield "refused_05_repeated_node", changed(base, "I", at(NODES, 4, 0), 2)
-    yield "refused_05_kind", changed(base, "I", at(NODES, 1, 4), 3)
-    yield "refused_05_player_at_a_chance_node", changed(base, "I", at(NODES, 1, 8), 1)
-    yield "refused_05_player_at_a_terminal", changed(base, "I", at(NODES, 2, 8), NO_PLAYER)
-    yield "refused_05_repeated_child", changed(base, "I", at(CHILDREN, 3, 0), 10)
-    yield "refused_05_repeated_action", changed(base, "I", at(ACTIONS, 1, 0), 10)
-    yield "refused_05_action_label_number", changed(base, "I", at(ACTIONS, 1, 4), 4)
-    yield "refused_05_chance_label_number", changed(base, "I", at(CHANCES, 0, 4), 4)
-    yield "refused_05_repeated_transition", changed(base, "I", at(TRANSITIONS, 1, 0), 10)
-    yield "refused_05_repeated_terminal", changed(base, "I", at(TERMINALS, 2, 0), 3)
-    yield "refused_05_nine_payoffs", Sheet(1).terminal(1, *range(9))
-    yield "refused_05_too_few_payoff_rows", changed(base, "I", at(TERMINALS, 2, 4), 3)
-    yield "refused_05_too_many_payoff_rows", changed(base, "I", at(TERMINALS, 2, 4), 1)
-    yield "refused_05_repeated_set_member", worked().member(1, 0, 7).member(2, 0, 7).member(1, 0, 8)
-    yield "refused_05_label_before_the_last_one_ends", changed(base, "I", at(LABELS, 1, 0), 3)
-    yield "refused_05_label_past_the_text", changed(base, "I", at(LABELS, 3, 4), 4)
-    yield "refused_05_text_byte_1f", changed(base, "B", at(TEXT, 4, 0), 0x1F)
-    yield "refused_05_text_byte_7f", changed(base, "B", at(TEXT, 14, 0), 0x7F)
-    yield "refused_05_labels_before_nodes", changed(base, "I", at(NODES, 0, 4), 3, at(LABELS, 2, 4), 99)
-    yield "refused_05_text_before_nodes", changed(base, "I", at(NODES, 0, 8), NO_PLAYER, at(TEXT, 0, 0), 0x0A0A0A0A)
-    yield "refused_05_repeated_before_kind", changed(base, "I", at(NODES, 3, 0), 1, at(NODES, 3, 4), 7)
-    yield "refused_05_total_before_payoffs", changed(base, "I", at(TERMINALS, 0, 4), 1, at(PAYOFFS, 0, 4), 0x7FF00000)
 
-    # 6 to 10
-    yield "refused_06_node", changed(base, "I", at(NODES, 0, 8), NO_PLAYER)
-    yield "refused_06_row_0_before_row_1", changed(base, "I", at(NODES, 0, 8), NO_PLAYER, at(NODES, 1, 4), 3)
+def refused_rows():
+    """5, and which of several faults is named."""
+    yield "refused_05_repeated_node", changed(BASE, "I", at(NODES, 4, 0), 2)
+    yield "refused_05_kind", changed(BASE, "I", at(NODES, 1, 4), 3)
+    yield "refused_05_player_at_a_chance_node", changed(BASE, "I", at(NODES, 1, 8), 1)
+    yield "refused_05_player_at_a_terminal", changed(BASE, "I", at(NODES, 2, 8), NO_PLAYER)
+    yield "refused_05_repeated_child", changed(BASE, "I", at(CHILDREN, 3, 0), 10)
+    yield "refused_05_repeated_action", changed(BASE, "I", at(ACTIONS, 1, 0), 10)
+    yield "refused_05_action_label_number", changed(BASE, "I", at(ACTIONS, 1, 4), 4)
+    yield "refused_05_chance_label_number", changed(BASE, "I", at(CHANCES, 0, 4), 4)
+    yield "refused_05_repeated_transition", changed(BASE, "I", at(TRANSITIONS, 1, 0), 10)
+    yield "refused_05_repeated_terminal", changed(BASE, "I", at(TERMINALS, 2, 0), 3)
+    yield "refused_05_nine_payoffs", Sheet(1).terminal(1, *range(9))
+    yield "refused_05_too_few_payoff_rows", changed(BASE, "I", at(TERMINALS, 2, 4), 3)
+    yield "refused_05_too_many_payoff_rows", changed(BASE, "I", at(TERMINALS, 2, 4), 1)
+    yield "refused_05_repeated_set_member", worked().member(1, 0, 7).member(2, 0, 7).member(1, 0, 8)
+    yield "refused_05_label_before_the_last_one_ends", changed(BASE, "I", at(LABELS, 1, 0), 3)
+    yield "refused_05_label_past_the_text", changed(BASE, "I", at(LABELS, 3, 4), 4)
+    yield "refused_05_text_byte_1f", changed(BASE, "B", at(TEXT, 4, 0), 0x1F)
+    yield "refused_05_text_byte_7f", changed(BASE, "B", at(TEXT, 14, 0), 0x7F)
+    yield "refused_05_labels_before_nodes", changed(BASE, "I", at(NODES, 0, 4), 3, at(LABELS, 2, 4), 99)
+    yield "refused_05_text_before_nodes", changed(BASE, "I", at(NODES, 0, 8), NO_PLAYER, at(TEXT, 0, 0), 0x0A0A0A0A)
+    yield "refused_05_repeated_before_kind", changed(BASE, "I", at(NODES, 3, 0), 1, at(NODES, 3, 4), 7)
+    yield "refused_05_total_before_payoffs", changed(BASE, "I", at(TERMINALS, 0, 4), 1, at(PAYOFFS, 0, 4), 0x7FF00000)
+
+
+def refused_values():
+    """6 to 10."""
+    yield "refused_06_node", changed(BASE, "I", at(NODES, 0, 8), NO_PLAYER)
+    yield "refused_06_row_0_before_row_1", changed(BASE, "I", at(NODES, 0, 8), NO_PLAYER, at(NODES, 1, 4), 3)
     yield "refused_06_set", worked().member(1, NO_PLAYER, 7)
     empty = worked().add_label("").bytes()
     yield "refused_07_action", changed(empty, "I", place(empty, ACTIONS, 1, 4), 4)
     yield "refused_07_before_8", changed(empty, "I", place(empty, CHANCES, 1, 4), 4, place(empty, CHANCES, 1, 16), 0x40000000)
-    yield "refused_08_zero", changed(base, "d", at(CHANCES, 0, 12), 0.0)
-    yield "refused_08_minus_zero", changed(base, "d", at(CHANCES, 0, 12), -0.0)
-    yield "refused_08_negative", changed(base, "d", at(CHANCES, 1, 12), -0.25)
-    yield "refused_08_above_one", changed(base, "Q", at(CHANCES, 1, 12), 0x3FF0000000000001)
-    yield "refused_08_nan", changed(base, "Q", at(CHANCES, 1, 12), 0x7FF8000000000001)
+    yield "refused_08_zero", changed(BASE, "d", at(CHANCES, 0, 12), 0.0)
+    yield "refused_08_minus_zero", changed(BASE, "d", at(CHANCES, 0, 12), -0.0)
+    yield "refused_08_negative", changed(BASE, "d", at(CHANCES, 1, 12), -0.25)
+    yield "refused_08_above_one", changed(BASE, "Q", at(CHANCES, 1, 12), 0x3FF0000000000001)
+    yield "refused_08_nan", changed(BASE, "Q", at(CHANCES, 1, 12), 0x7FF8000000000001)
     yield "refused_09_no_payoffs", Sheet(1).terminal(1)
-    yield "refused_10_infinite", changed(base, "d", at(PAYOFFS, 3, 0), -inf)
-    yield "refused_10_nan", changed(base, "d", at(PAYOFFS, 5, 0), nan)
+    yield "refused_10_infinite", changed(BASE, "d", at(PAYOFFS, 3, 0), -inf)
+    yield "refused_10_nan", changed(BASE, "d", at(PAYOFFS, 5, 0), nan)
 
-    # the solve
+
+def refused_solves():
     yield "refused_11_no_rows", Sheet(1)
-    yield "refused_11_root", changed(base, "I", 8, 9)
+    yield "refused_11_root", changed(BASE, "I", 8, 9)
     yield "refused_11_target", choice(0, [1]).action(20, 1, "out", 77)
     yield "refused_13_no_terminal_row", Sheet(1).row(NODES, "III", 1, 2, 0)
-    yield "refused_14_no_transition", changed(base, "I", at(TRANSITIONS, 1, 0), 99)
-    yield "refused_14_before_15", changed(base, "I", at(TRANSITIONS, 0, 0), 99, at(TRANSITIONS, 1, 4), 4)
+    yield "refused_14_no_transition", changed(BASE, "I", at(TRANSITIONS, 1, 0), 99)
+    yield "refused_14_before_15", changed(BASE, "I", at(TRANSITIONS, 0, 0), 99, at(TRANSITIONS, 1, 4), 4)
     yield "refused_14_before_a_target_is_visited", choice(0, [1]).action(20, 1, "out", 77).child(21, 1).row(ACTIONS, "III", 21, 0, 2)
-    yield "refused_15_transition_elsewhere", changed(base, "I", at(TRANSITIONS, 1, 4), 5)
-    yield "refused_15_chance", changed(base, "I", at(TRANSITIONS, 2, 4), 3)
+    yield "refused_15_transition_elsewhere", changed(BASE, "I", at(TRANSITIONS, 1, 4), 5)
+    yield "refused_15_chance", changed(BASE, "I", at(TRANSITIONS, 2, 4), 3)
     yield "refused_16_no_action", Sheet(1).decision(1, 0).child(10, 1)
     yield "refused_17_no_outcome", Sheet(1).chance(1)
     yield "refused_18_terminal", choice(2, [1, 2, 3], [1, 2])
@@ -449,9 +465,13 @@ def refusals():
                                           .action(13, 1, "out", 77))
 
 
+SOLUTIONS = [solutions, solutions_by_floats, solutions_by_labels, solutions_by_walk]
+REFUSALS = [refused_layouts, refused_rows, refused_values, refused_solves]
+
+
 def main():
     files = {}
-    for name, sheet in [*solutions(), *refusals()]:
+    for name, sheet in (described for part in SOLUTIONS + REFUSALS for described in part()):
         data = sheet if isinstance(sheet, bytes) else sheet.bytes()
         text = printed(data)
         assert name not in [n.split(".")[0] for n in files], name

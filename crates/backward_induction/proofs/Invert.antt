@@ -1,6 +1,6 @@
 -- What an answer that is no refusal says of the parts that it came from: each edge was replied to, each outcome solved, and the payoffs element by element.
 use mathlib.Core.Path.{_≡_, refl, sym, subst}
-use mathlib.Core.Bool.{Bool, true, false, _&&_}
+use mathlib.Core.Bool.{Bool, true, false, _&&_, cond}
 use mathlib.Core.Logic.{inl, inr}
 use mathlib.Core.List.{List, [], _∷_, List·Memᴰ, List·Memᴰ·head, List·Memᴰ·tail, List·Memᴰ·cases-cons, List·Memᴰ·not-nil, zipWith}
 use mathlib.Core.Option.{Option, none, some, Option·none-ne-some, Option·some-injective}
@@ -10,7 +10,8 @@ use lib.ListN.{length, getElem?}
 use lib.Dec.{eqb}
 use Rattle.number.specs.Number.{Number, plus, times, isFinite}
 use Rattle.answer.specs.declared.Refusal.{Refusal}
-use Rattle.answer.specs.Answer.{Answer, refused, done, _>>=_, orRefuse}
+use Rattle.answer.specs.Answer.{Answer, refused, done, _>>=_, orRefuse, unless}
+use Rattle.answer.specs.Refusals.{inconsistentChancePayoffCount}
 use Rattle.answer.proofs.AnswerLaws.{refused-not-done, done-injective, bind-done}
 use Rattle.game.specs.declared.ActionEdge.{ActionEdge}
 use Rattle.game.specs.Game.{Chance}
@@ -66,7 +67,11 @@ sum-at p (x ∷ sums) (v ∷ vs) (suc i) u e next = sum-at p sums vs i u e next
 pub added-done : {P : Type 0} (e : ℕ) (sums : List Number) (p : Number) (vs more : List Number) → added e sums p vs ≡ done more
     → (eqb (length vs) (length sums) ≡ true → zipWith plus sums (products p vs) ≡ more → P) → P
 unfolding added
-added-done e sums p vs more h next = test-done (eqb (length vs) (length sums)) _ more _ h next
+added-done {P} e sums p vs more h next = go (eqb (length vs) (length sums)) (zipWith plus sums (products p vs)) (inconsistentChancePayoffCount e (length sums) (length vs)) h next
+  where
+    go : (b : Bool) (xs : List Number) (r : Refusal) → unless (cond b none (some r)) (done xs) ≡ done more → (b ≡ true → xs ≡ more → P) → P
+    go true xs r k then = then refl (done-injective k)
+    go false xs r k then = absurd (refused-not-done k)
 
 pub in-range-done : {P : Type 0} (e : ℕ) (vs ws : List Number) → inRange e vs ≡ done ws → (allFinite vs ≡ true → vs ≡ ws → P) → P
 unfolding inRange

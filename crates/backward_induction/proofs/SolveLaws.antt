@@ -15,7 +15,7 @@ use Rattle.game.specs.Game.{Game, Chance, kindOf}
 use Rattle.game.specs.Edges.{outgoingActionEdges, outgoingChanceOutcomes}
 use Rattle.backward_induction.specs.declared.Method.{Method}
 use Rattle.backward_induction.specs.declared.Method.the-variants as Methods
-use Rattle.backward_induction.specs.Solve.{Solution, Reply, Solver, reply, better, best, bestOf, taken, added, sumsOn, sumsOf, allFinite, inRange, atChance, atKind, step, solve}
+use Rattle.backward_induction.specs.Solve.{Solution, Reply, Solver, reply, better, best, bestOf, taken, added, sumsOn, sumsOf, allFinite, inRange, weighed, atChance, atKind, step, solve}
 use Rattle.backward_induction.specs.Turns.{leading, bestFrom, addedTo, sumsFrom}
 use Rattle.backward_induction.proofs.Related.{equality, reply-related}
 
@@ -55,7 +55,7 @@ module _ (method : Method) (g : Game) (f : Solver) (e : ℕ) where
       step-chance-fault r h = rw (k, m, h)
 
       pub step-chance : (os : List Chance) → outgoingChanceOutcomes g e ≡ done os
-          → step method g f e ≡ (sumsOf f e os >>= λ vs. inRange e vs >>= λ ws. done (record { terminal = none; actions = []; payoffs = ws }))
+          → step method g f e ≡ (sumsOf f e os >>= weighed e)
       unfolding step atKind atChance
       step-chance os h = rw (k, m, h)
 

@@ -1,6 +1,6 @@
 -- Depth spent, refusal 24, is told of a node that the solve visits with no depth left, and of no other.
 use mathlib.Core.Path.{_≡_, refl}
-use mathlib.Core.Bool.{Bool, true, false, not}
+use mathlib.Core.Bool.{Bool, true, false, not, cond}
 use mathlib.Core.List.{List, [], _∷_, List·Memᴰ, List·Memᴰ·head, List·Memᴰ·tail}
 use mathlib.Core.Option.{Option, none, some}
 use Prim.Native.Nat.{ℕ, zero, suc}
@@ -45,6 +45,10 @@ module _ (R : Refusal → Type 0) where
   test-spent : {A : Type 0} (b : Bool) (x : A) (r : Refusal) → (r .number ≡ 24 → ⊥) → SpentAs {A = A} R (elim b [ true ↦ done x | false ↦ refused r ])
   test-spent true x r h = tt
   test-spent false x r h = λ e. absurd (h e)
+
+  count-spent : {A : Type 0} (b : Bool) (x : A) (r : Refusal) → (r .number ≡ 24 → ⊥) → SpentAs {A = A} R (unless (cond b none (some r)) (done x))
+  count-spent true x r h = tt
+  count-spent false x r h = λ e. absurd (h e)
 
   -- ---- the edges have faults of other numbers
   edge-spent : {A : Type 0} (g : Game) (rowOf : ℕ → Option A) (target : A → ℕ) (e : ℕ) → SpentAs R (edgeOf g rowOf target e)
@@ -99,7 +103,7 @@ module _ (R : Refusal → Type 0) where
     sumsOn-spent e sums [] h = tt
     sumsOn-spent e sums (o ∷ os) h =
         bind-spent (f (o .target)) _ (h o (List·Memᴰ·head refl)) λ s es.
-        bind-spent (added e sums (o .probability) (s .payoffs)) _ (test-spent (eqb (length (s .payoffs)) (length sums)) _ _ (λ k. omega arith)) λ more em.
+        bind-spent (added e sums (o .probability) (s .payoffs)) _ (count-spent (eqb (length (s .payoffs)) (length sums)) _ _ (λ k. omega arith)) λ more em.
         sumsOn-spent e more os (λ y i. h y (List·Memᴰ·tail i))
 
     sumsOf-spent : (e : ℕ) (os : List Chance) → ((o : Chance) → List·Memᴰ o os → SpentAs R (f (o .target))) → SpentAs R (sumsOf f e os)

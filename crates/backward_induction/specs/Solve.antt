@@ -8,7 +8,8 @@ use Prim.Native.Nat.{ℕ, zero, suc}
 use lib.ListN.{length, getElem?}
 use lib.Dec.{eqb}
 use Rattle.number.specs.Number.{Number, plus, times, less, isFinite}
-use Rattle.answer.specs.Answer.{Answer, refused, done, _>>=_, orRefuse}
+use Rattle.answer.specs.Fault.{Fault}
+use Rattle.answer.specs.Answer.{Answer, refused, done, _>>=_, orRefuse, unless}
 use Rattle.answer.specs.Refusals.{missingNode, missingTerminalUtility, noOutgoingActions, noOutgoingChanceOutcomes, missingPlayerPayoff, inconsistentChancePayoffCount, unsupportedChanceNode, depthSpent, outOfRange}
 use Rattle.game.specs.declared.Kind.{Kind}
 use Rattle.game.specs.declared.Kind.the-variants as Kinds
@@ -71,13 +72,13 @@ allFinite (v ∷ vs) = isFinite v && allFinite vs
 unfoldable pub inRange : ℕ → List Number → Answer (List Number)
 inRange e vs = elim (allFinite vs) [ true ↦ done vs | false ↦ refused (outOfRange e) ]
 
+-- 19 where an outcome has another number of payoffs than those before it
+abbrev pub countFault : ℕ → ℕ → ℕ → Fault
+countFault e expected actual = cond (eqb actual expected) none (some (inconsistentChancePayoffCount e expected actual))
+
 -- one more outcome's products on the sums so far
 unfoldable pub added : ℕ → List Number → Number → List Number → Answer (List Number)
-added e sums p vs =
-    elim (eqb (length vs) (length sums)) [
-      | true ↦ done (zipWith plus sums (products p vs))
-      | false ↦ refused (inconsistentChancePayoffCount e (length sums) (length vs))
-    ]
+added e sums p vs = unless (countFault e (length sums) (length vs)) (done (zipWith plus sums (products p vs)))
 
 unfoldable pub sumsOn : Solver → ℕ → List Number → List Chance → Answer (List Number)
 sumsOn f e sums [] = done sums
@@ -88,16 +89,15 @@ unfoldable pub sumsOf : Solver → ℕ → List Chance → Answer (List Number)
 sumsOf f e [] = refused (noOutgoingChanceOutcomes e)
 sumsOf f e (o ∷ os) = f (o .target) >>= λ s. sumsOn f e (products (o .probability) (s .payoffs)) os
 
+-- the sums over all outcomes as the answer, with no terminal and no actions: 25 only here
+abbrev pub weighed : ℕ → List Number → Answer Solution
+weighed e vs = inRange e vs >>= λ ws. done (record { terminal = none; actions = []; payoffs = ws })
+
 -- ---- the solve of a game
 
 module _ (g : Game) where
-  -- 25 only after all outcomes
   unfoldable pub atChance : Method → Solver → ℕ → Answer Solution
-  atChance Methods.ChanceWeighted f e =
-      outgoingChanceOutcomes g e >>= λ os.
-      sumsOf f e os >>= λ vs.
-      inRange e vs >>= λ ws.
-      done (record { terminal = none; actions = []; payoffs = ws })
+  atChance Methods.ChanceWeighted f e = outgoingChanceOutcomes g e >>= λ os. sumsOf f e os >>= weighed e
   atChance Methods.Plain f e = refused (unsupportedChanceNode e)
 
 module _ (method : Method) (g : Game) where

@@ -1,7 +1,7 @@
 -- Entering a node: no depth left, no such node, an answer that is known, a terminal, and the edges of a decision or a chance node before any target is solved.
 use mathlib.Core.Path.{_≡_, refl, sym, ap, _∙_}
 use mathlib.Core.Bool.{Bool, true, false, _&&_}
-use mathlib.Core.List.{List, []}
+use mathlib.Core.List.{List}
 use mathlib.Core.Option.{none, some}
 use Prim.Native.Nat.{ℕ, suc, _-_, _<_, _≤_}
 use native.Mathlib.Omega.{arith}
@@ -19,7 +19,7 @@ use Rattle.sheet.specs.Found.{NodeAt}
 use Rattle.sheet.proofs.ChildWalk.{actions-walk, chances-walk}
 use Rattle.backward_induction.specs.declared.Method.{Method}
 use Rattle.backward_induction.specs.declared.Method.the-variants as Methods
-use Rattle.backward_induction.specs.Solve.{Solver, taken, inRange, atKind, step, solve}
+use Rattle.backward_induction.specs.Solve.{Solver, taken, weighed, atKind, step, solve}
 use Rattle.backward_induction.proofs.SolveLaws.{solve-zero, solve-suc, step-missing, step-action-fault, step-decision, step-plain, step-chance-fault, step-chance, bestOf-from, sumsOf-from}
 use Rattle.memo.specs.Memo.{Rows, entry, height, known}
 use Rattle.memo.specs.Visits.{SolvedIn}
@@ -99,6 +99,6 @@ module _ (method : Method) {s : List ℕ} {row e : ℕ} (node : NodeAt s row e) 
             outcomes = os;
             left = sym (chances-walk s e (rowCount s 1) refl) ∙ q;
             right = λ k _. solve-suc method (gameOf s) k e ∙ step-chance method (gameOf s) (solve method (gameOf s) k) e kind weighted os q
-                ∙ ap (λ a. a >>= λ vs. inRange e vs >>= λ ws. done (record { terminal = none; actions = []; payoffs = ws })) (sumsOf-from (solve method (gameOf s) k) e os);
+                ∙ ap (λ a. a >>= weighed e) (sumsOf-from (solve method (gameOf s) k) e os);
           },
         )

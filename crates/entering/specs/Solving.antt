@@ -1,7 +1,7 @@
 -- What is known of a node that is being solved: which of its child rows are left, and what is held of those before. Definitions only.
 use Prim.Native.Nat.{ℕ, suc, _*_, _<_, _≤_}
 use mathlib.Core.Path.{_≡_}
-use mathlib.Core.List.{List, []}
+use mathlib.Core.List.{List}
 use mathlib.Core.Option.{Option, none}
 use lib.ListN.{length}
 use Rattle.number.specs.Number.{Number}
@@ -16,7 +16,7 @@ use Rattle.sheet.specs.Meaning.{gameOf}
 use Rattle.sheet.specs.Found.{NodeAt}
 use Rattle.child_rows.specs.Links.{Linked}
 use Rattle.backward_induction.specs.declared.Method.{Method}
-use Rattle.backward_induction.specs.Solve.{taken, inRange, solve}
+use Rattle.backward_induction.specs.Solve.{taken, weighed, solve}
 use Rattle.backward_induction.specs.Turns.{bestFrom, sumsFrom}
 use Rattle.memo.specs.Memo.{Rows, Memo, Extends}
 use Rattle.memo.specs.Visits.{Visited}
@@ -57,7 +57,7 @@ pub record Weighing (method : Method) (s : List ℕ) (e i deepest : ℕ) (w : Su
   pub outcomes : List Chance
   pub left : collectFrom (chanceOutcomeIn (gameOf s) e) (childRow s) (rowCount s 1) i ≡ done outcomes
   pub right : (k : ℕ) → deepest ≤ k
-      → solve method (gameOf s) (suc k) e ≡ (sumsFrom (solve method (gameOf s) k) e sums outcomes >>= λ vs. inRange e vs >>= λ ws. done (record { terminal = none; actions = []; payoffs = ws }))
+      → solve method (gameOf s) (suc k) e ≡ (sumsFrom (solve method (gameOf s) k) e sums outcomes >>= weighed e)
 
 -- a chance node of which no child row is dealt with
 abbrev pub ToWeigh : Method → List ℕ → ℕ → Type 0

@@ -19,7 +19,7 @@ use Rattle.lookup.specs.Hints.{lookedUp, placeOf, folded, slotOf, hintOf
 
 pub slot-within : (n k e : ℕ) → 0 < n → slotOf n k e < n
 unfolding slotOf
-slot-within n k e h = omega (arith, and-le-r (4 * folded e + placeOf k) (n - 1))
+slot-within n k e h = omega (arith, and-le-r (2 * folded e + placeOf k) (n - 1))
 
 -- a hint that is set
 module _ (hints : List ℕ) (j x : ℕ) (here : j < length hints) (given : 0 < x) where
@@ -45,7 +45,7 @@ unfolding lookedUp
 not-looked-up = refl
 
 module _ (k : ℕ) (looked : lookedUp k ≡ true) where
-  looked-below : k < 6
+  pub looked-below : k < 6
   unfolding lookedUp
   looked-below = ltb-true k 6 (left-true (ltb k 6) _ looked)
 

@@ -1,7 +1,7 @@
 -- A table of hints: in which row of a section an entity may stand. A hint is the row's number and one more, or 0 where no row is noted. Definitions only.
 use Prim.Native.Nat.{ℕ, _+_, _-_, _*_, _/_, _<_}
 use mathlib.Core.Path.{_≡_}
-use mathlib.Core.Bool.{Bool, true, not, cond, _&&_}
+use mathlib.Core.Bool.{Bool, true, not, _&&_}
 use mathlib.Core.Option.{none}
 use mathlib.Core.List.{List}
 use lib.Bits.{bitAnd}
@@ -14,17 +14,17 @@ use Rattle.opening.specs.SheetFault.{sheetFault}
 unfoldable pub lookedUp : ℕ → Bool
 lookedUp k = ltb k 6 && not (eqb k 1)
 
--- which of an entity's four hints is that of its row of section k: its node, action or chance, transition and terminal row
+-- which of an entity's two hints is that of its row of section k: its node, action or chance row has the first, its transition or terminal row the second
 unfoldable pub placeOf : ℕ → ℕ
-placeOf k = cond (eqb k 0) 0 (cond (ltb k 4) 1 (cond (eqb k 4) 2 3))
+placeOf k = k / 4
 
 -- an entity and its higher digits added up: entities one after the other, or in steps of a power of two, have slots of their own in tables of any length
 unfoldable pub folded : ℕ → ℕ
-folded e = e + e / 2048 + e / 65536 + e / 4194304
+folded e = e + e / 2048 + e / 65536
 
 -- where in a table of n hints that of an entity's row of section k stands
 unfoldable pub slotOf : ℕ → ℕ → ℕ → ℕ
-slotOf n k e = bitAnd (4 * folded e + placeOf k) (n - 1)
+slotOf n k e = bitAnd (2 * folded e + placeOf k) (n - 1)
 
 unfoldable pub hintOf : List ℕ → ℕ → ℕ → ℕ
 hintOf hints k e = getD hints (slotOf (length hints) k e) 0

@@ -1,5 +1,5 @@
 // Lookups of a row by its entity in a sheet without fault, by a table of hints that is filled once.
-// Hints: in which row of section k an entity may stand. An entity has four places one after the other, in a table whose length is a power of two.
+// Hints: in which row of section k an entity may stand. An entity has two places, one beside the other, in a table whose length is a power of two.
 // A node has rows in sections 0 and 5, and an edge in 2 or 3 and in 4, so that the rows of one entity have hints of their own.
 // A hint is looked at before it is used, since rows of different entities may share one; where there is none there is no row.
 ghost use mathlib.Core.Path.{_≡_};
@@ -10,38 +10,22 @@ ghost use lib.ListN.{length};
 ghost use Rattle.rows.specs.Rows.{findRow, foundAt};
 ghost use Rattle.layout.specs.Layout.{width, section, rowCount, layoutFault};
 ghost use Rattle.opening.specs.SheetFault.{sheetFault};
-ghost use Rattle.lookup.specs.Hints.{lookedUp, placeOf, slotOf, hintOf, NotedTo, StillNoted, Noted};
+ghost use Rattle.lookup.specs.Hints.{lookedUp, slotOf, hintOf, NotedTo, StillNoted, Noted};
 use layout::section_of;
 use layout::width_of;
 use rows::Found;
 
-// Which of an entity's hints is that of its row of section k.
-fn place(k: usize) -> usize
-    ensures { λ r. ⌜ (r ≡ placeOf k) × (r < 4) ⌝ }
-{
-    if k == 0 {
-        return 0;
-    }
-    if k < 4 {
-        return 1;
-    }
-    if k == 4 {
-        return 2;
-    }
-    3
-}
-
 // Where the hint of an entity stands in a table of n.
 fn slot(n: usize, k: usize, entity: u32) -> usize
-    requires { ⌜ 0 < n ⌝ }
+    requires { ⌜ (0 < n) × (k < 6) ⌝ }
     ensures { λ r. ⌜ r ≡ slotOf n k entity ⌝ }
 {
     let e = entity as usize;
-    (4 * (e + e / 2048 + e / 65536 + e / 4194304) + place(k)) & (n - 1)
+    (2 * (e + e / 2048 + e / 65536) + k / 4) & (n - 1)
 }
 
 fn note(hints: &mut [u16], k: usize, entity: u32, hint: u16)
-    requires { ⌜ (0 < length (now hints)) × (0 < hint) ⌝ }
+    requires { ⌜ (0 < length (now hints)) × (k < 6) × (0 < hint) ⌝ }
     ensures { λ _. ⌜ (0 < hintOf (now (hints .exit)) k entity) × StillNoted (now (hints .entry)) (now (hints .exit)) ⌝ }
 {
     let at = slot(hints.len(), k, entity);

@@ -2,9 +2,19 @@
 // the stored words. Both stand in arrays of 1,100 words that end in zeros; so members and entries that the stored answer leaves out must be 0.
 ghost use mathlib.Core.Path.{_≡_};
 ghost use mathlib.Core.Bool.{true};
-ghost use Prim.Native.Nat.{ℕ, _≤_, _<_};
-ghost use lib.ListN.{length, getD};
-ghost use Rattle.replay.specs.Lent.{lent};
+ghost use mathlib.Core.List.{map};
+ghost use mathlib.Core.Logic.{_↔_};
+ghost use mathlib.Core.Option.{some};
+ghost use Prim.Native.Nat.{_≤_};
+ghost use lib.ListN.{length, take};
+ghost use Rattle.number.specs.Meaning.{meaning};
+ghost use Rattle.kgs.specs.Interface.{members, left};
+ghost use Rattle.text.specs.Written.{written};
+ghost use Rattle.paths.specs.Listing.{listing as pathListing};
+ghost use Rattle.information_sets.specs.InformationSets.{listing as setListing};
+ghost use Rattle.replay.specs.Calls.{listingWords, expectedRow};
+ghost use Rattle.replay.specs.Lent.{lent, LentFrom};
+ghost use Rattle.replay.specs.Words.{numberWord, refusalWords, solutionWords, kuhnWords, leftWords, row};
 use kgs::KgsKuhn;
 use kgs::KgsRefusal;
 use kgs::KgsSolution;
@@ -12,7 +22,7 @@ use kgs::KgsWritten;
 use number::Weighted;
 
 fn same_words(a: &[u64], b: &[u64]) -> bool
-    ensures { λ r. ⌜ (r ≡ true → now (a .entry) ≡ now (b .entry)) × (now (a .entry) ≡ now (b .entry) → r ≡ true) ⌝ }
+    ensures { λ r. ⌜ (r ≡ true) ↔ (now (a .entry) ≡ now (b .entry)) ⌝ }
 {
     if a.len() != b.len() {
         return false;
@@ -27,12 +37,16 @@ fn same_words(a: &[u64], b: &[u64]) -> bool
     true
 }
 
-fn same_answer(words: &[u64; 1100], stored: &[u64; 1100]) -> bool {
+fn same_answer(words: &[u64; 1100], stored: &[u64; 1100]) -> bool
+    ensures { λ r. ⌜ (r ≡ true) ↔ (now (words .entry) ≡ now (stored .entry)) ⌝ }
+{
     same_words(words, stored)
 }
 
-// The bits of a finite number, plus 0 for a zero of either sign; what is not finite agrees with no stored answer.
-fn bits(x: f64) -> u64 {
+// The bits of a finite number, plus 0 for a zero of either sign; what is not finite gives infinity's, which no stored answer has.
+fn bits(x: f64) -> u64
+    ensures { λ r. ⌜ r ≡ numberWord (meaning x) ⌝ }
+{
     if x == 0.0 {
         return 0;
     }
@@ -42,7 +56,10 @@ fn bits(x: f64) -> u64 {
     }
 }
 
-fn put_refusal(words: &mut [u64; 1100], refusal: KgsRefusal) {
+fn put_refusal(words: &mut [u64; 1100], refusal: KgsRefusal)
+    requires { ⌜ length (now words) ≡ 1100 ⌝ }
+    ensures { λ _. ⌜ now (words .exit) ≡ written (now (words .entry)) 0 (refusalWords refusal) ⌝ }
+{
     words[0] = refusal.number;
     words[1] = refusal.a;
     words[2] = refusal.b;
@@ -50,23 +67,33 @@ fn put_refusal(words: &mut [u64; 1100], refusal: KgsRefusal) {
     words[4] = refusal.d;
 }
 
-fn put_payoffs(words: &mut [u64; 1100], payoffs: &[f64; 8]) {
+fn put_payoffs(words: &mut [u64; 1100], payoffs: [f64; 8])
+    requires { ⌜ length (now words) ≡ 1100 ⌝ }
+    ensures { λ _. ⌜ now (words .exit) ≡ written (now (words .entry)) 8 (map numberWord (map meaning payoffs)) ⌝ }
+{
     for i in 0..8 {
         words[8 + i] = bits(payoffs[i]);
     }
 }
 
-fn put_labels(words: &mut [u64; 1100], labels: &[u32; 64]) {
+fn put_labels(words: &mut [u64; 1100], labels: [u32; 64])
+    requires { ⌜ length (now words) ≡ 1100 ⌝ }
+    ensures { λ _. ⌜ now (words .exit) ≡ written (now (words .entry)) 17 labels ⌝ }
+{
     for i in 0..64 {
         words[17 + i] = wide(labels[i]);
     }
 }
 
-fn wide(x: u32) -> u64 {
+fn wide(x: u32) -> u64
+    ensures { λ r. ⌜ r ≡ x ⌝ }
+{
     x as u64
 }
 
-fn solution_agrees(solution: KgsSolution, stored: &[u64; 1100]) -> bool {
+fn solution_agrees(solution: KgsSolution, stored: &[u64; 1100]) -> bool
+    ensures { λ r. ⌜ (r ≡ true) ↔ (row (solutionWords (members solution)) ≡ some (now (stored .entry))) ⌝ }
+{
     let refusal = solution.refusal;
     let payoffs = solution.payoffs;
     let labels = solution.labels;
@@ -75,19 +102,23 @@ fn solution_agrees(solution: KgsSolution, stored: &[u64; 1100]) -> bool {
     words[5] = solution.has_terminal;
     words[6] = solution.terminal;
     words[7] = solution.payoff_count;
-    put_payoffs(&mut words, &payoffs);
+    put_payoffs(&mut words, payoffs);
     words[16] = solution.action_count;
-    put_labels(&mut words, &labels);
+    put_labels(&mut words, labels);
     same_answer(&words, stored)
 }
 
-fn refusal_agrees(refusal: KgsRefusal, stored: &[u64; 1100]) -> bool {
+fn refusal_agrees(refusal: KgsRefusal, stored: &[u64; 1100]) -> bool
+    ensures { λ r. ⌜ (r ≡ true) ↔ (row (refusalWords refusal) ≡ some (now (stored .entry))) ⌝ }
+{
     let mut words = [0u64; 1100];
     put_refusal(&mut words, refusal);
     same_answer(&words, stored)
 }
 
-fn kuhn_agrees(kuhn: KgsKuhn, stored: &[u64; 1100]) -> bool {
+fn kuhn_agrees(kuhn: KgsKuhn, stored: &[u64; 1100]) -> bool
+    ensures { λ r. ⌜ (r ≡ true) ↔ (row (kuhnWords kuhn) ≡ some (now (stored .entry))) ⌝ }
+{
     let refusal = kuhn.refusal;
     let mut words = [0u64; 1100];
     put_refusal(&mut words, refusal);
@@ -105,7 +136,7 @@ fn pattern(i: usize) -> u64
 
 // A buffer to lend the front of.
 fn unwritten() -> [u64; 6200]
-    ensures { λ r. ⌜ 6200 ≡ length r ⌝ }
+    ensures { λ r. ⌜ (6200 ≡ length r) × LentFrom 0 r ⌝ }
 {
     let mut buffer = [0u64; 6200];
     for i in 0..6200 {
@@ -116,7 +147,7 @@ fn unwritten() -> [u64; 6200]
 
 // Whether the elements from a place on, those past the room that was lent among them, still hold what they held before the call.
 fn untouched(buffer: &[u64; 6200], from: usize) -> bool
-    ensures { λ r. ⌜ (r ≡ true → (k : ℕ) → k < 6200 → from ≤ k → getD (now (buffer .entry)) k 0 ≡ lent k) ⌝ }
+    ensures { λ r. ⌜ (r ≡ true) ↔ LentFrom from (now (buffer .entry)) ⌝ }
 {
     for i in from..6200 {
         if buffer[i] != pattern(i) {
@@ -126,27 +157,40 @@ fn untouched(buffer: &[u64; 6200], from: usize) -> bool
     true
 }
 
-// The buffer's front, as far as the answer's count and the words go; the answer is how many elements that is.
-fn put_listing(words: &mut [u64; 1100], buffer: &[u64; 6200], count: u64) -> usize {
-    let mut listed = 0;
-    while listed < 1094 && (listed as u64) < count {
-        words[6 + listed] = buffer[listed];
-        listed += 1;
+// The buffer's front.
+fn put_listing(words: &mut [u64; 1100], buffer: &[u64; 6200], count: usize)
+    requires { ⌜ (length (now words) ≡ 1100) × (length (now buffer) ≡ 6200) × (count ≤ 1094) ⌝ }
+    ensures { λ _. ⌜ now (words .exit) ≡ written (now (words .entry)) 6 (take count (now (buffer .entry))) ⌝ }
+{
+    for i in 0..count {
+        words[6 + i] = buffer[i];
     }
-    listed
 }
 
-fn listing_agrees(written: KgsWritten, buffer: &[u64; 6200], stored: &[u64; 1100]) -> bool {
+// A listing of more than 1,094 words has no room in a stored answer and agrees with none.
+fn listing_agrees(written: KgsWritten, buffer: &[u64; 6200], stored: &[u64; 1100]) -> bool
+    requires { ⌜ length (now buffer) ≡ 6200 ⌝ }
+    ensures { λ r. ⌜ (r ≡ true) ↔ ((row (leftWords (left written (now (buffer .entry)))) ≡ some (now (stored .entry))) × LentFrom (written .count) (now (buffer .entry))) ⌝ }
+{
     let refusal = written.refusal;
+    let count = written.count;
+    if count > 1094 {
+        return false;
+    }
+    let listed = count as usize;
     let mut words = [0u64; 1100];
     put_refusal(&mut words, refusal);
-    words[5] = written.count;
-    let listed = put_listing(&mut words, buffer, written.count);
-    same_answer(&words, stored) && untouched(buffer, listed)
+    words[5] = count;
+    put_listing(&mut words, buffer, listed);
+    if same_answer(&words, stored) {
+        return untouched(buffer, listed);
+    }
+    false
 }
 
 fn paths_agree(sheet: &[u8], start: u32, limit: u64, room: usize, stored: &[u64; 1100]) -> bool
     requires { ⌜ room ≤ 6200 ⌝ }
+    ensures { λ r. ⌜ (r ≡ true) ↔ (row (listingWords (pathListing (now (sheet .entry)) start limit room)) ≡ some (now (stored .entry))) ⌝ }
 {
     let mut buffer = unwritten();
     let written = kgs::kgs_paths(sheet, start, limit, &mut buffer[..room]);
@@ -155,13 +199,15 @@ fn paths_agree(sheet: &[u8], start: u32, limit: u64, room: usize, stored: &[u64;
 
 fn sets_agree(sheet: &[u8], room: usize, stored: &[u64; 1100]) -> bool
     requires { ⌜ room ≤ 6200 ⌝ }
+    ensures { λ r. ⌜ (r ≡ true) ↔ (row (listingWords (setListing (now (sheet .entry)) room)) ≡ some (now (stored .entry))) ⌝ }
 {
     let mut buffer = unwritten();
     let written = kgs::kgs_sets(sheet, &mut buffer[..room]);
     listing_agrees(written, &buffer, stored)
 }
 
-// Whether a call's answer is the stored one. A call that there is not, a start that is no u32 and a room beyond 6,200 words agree with nothing.
+// Whether a call's answer is the stored one. A call that there is not, a start that is no u32 and a room beyond 6,200 words agree with nothing. The contract need
+// not speak of the lent buffer's rest: `listing_agrees` looks at it, and the listings' own contracts say that it stays as it was.
 pub fn agrees(
     sheet: &[u8],
     call: u64,
@@ -169,7 +215,9 @@ pub fn agrees(
     limit: u64,
     room: u64,
     stored: &[u64; 1100],
-) -> bool {
+) -> bool
+    ensures { λ r. ⌜ (r ≡ true) ↔ (expectedRow (now (sheet .entry)) call start limit room ≡ some (now (stored .entry))) ⌝ }
+{
     if start > 4_294_967_295 || room > 6_200 {
         return false;
     }

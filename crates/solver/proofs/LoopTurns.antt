@@ -41,7 +41,7 @@ use Rattle.turns.specs.declared.ReplyTurn.{ReplyTurn}
 use Rattle.turns.specs.declared.ReplyTurn.the-variants.{Go, Stop}
 use Rattle.turns.specs.declared.Sums.{Sums}
 use Rattle.turns.specs.Replies.{leadIn, KeptIn, Replied, ExtendableBest, decided}
-use Rattle.turns.specs.Sums.{Holds, countFault, weighedUp}
+use Rattle.turns.specs.Sums.{Holds, outcomeFault, weighedUp}
 use Rattle.entering.specs.Solving.{Deciding, Weighing}
 use Rattle.solver.proofs.Walks.{Walk, in-rows, next-child, visited-as, walk-refused, walk-kept}
 use Rattle.solver.proofs.ReplyWalk as Replying
@@ -142,7 +142,7 @@ module _ {method : Method} {s hints links : List ℕ} {m₀ m : Rows} {row e lef
             let deep = walk .deep in
             visited-as m₀ m′ (sym q) (so-chance (Weighing-up.target-refused weighing outcome-row outcome (omega arith) (visited-as m m′ q visit .visited)))
 
-        module _ {at : ℕ} (there : v ≡ Solved at) (f : Check) (counted : faultOf f ≡ countFault e (w .started) (w .count) (payoffCount (entry m′ at))) where
+        module _ {at : ℕ} (there : v ≡ Solved at) (f : Check) (counted : faultOf f ≡ outcomeFault e (w .started) (w .count) (payoffCount (entry m′ at))) where
           pub outcome-stops : {r : Refusal} → f ≡ Checks.Refused r → Visits method s m₀ m′ left e (Refused r)
           outcome-stops q =
               let deep = walk .deep in

@@ -1,6 +1,6 @@
 -- The walk along the child rows of a chance node: a row that is no outcome, an outcome whose target is refused, one that stops or goes on with the sums, and the end.
 use mathlib.Core.Path.{_≡_, sym, ap, _∙_}
-use mathlib.Core.List.{List, [], _∷_}
+use mathlib.Core.List.{List, _∷_}
 use mathlib.Core.Option.{Option, none, some}
 use Prim.Native.Nat.{ℕ, suc, _+_, _<_, _≤_, max}
 use native.Mathlib.Omega.{arith}
@@ -21,14 +21,14 @@ use Rattle.child_rows.specs.Links.{NextOf}
 use Rattle.child_rows.proofs.LinkedWalk.{skip-to}
 use Rattle.edges.proofs.LinkedEdges.{no-chance}
 use Rattle.backward_induction.specs.declared.Method.{Method}
-use Rattle.backward_induction.specs.Solve.{Solution, Solver, inRange, solve}
+use Rattle.backward_induction.specs.Solve.{Solution, Solver, weighed, solve}
 use Rattle.backward_induction.specs.Turns.{addedTo, sumsFrom}
 use Rattle.backward_induction.proofs.SolveLaws.{sumsFrom-cons, sumsFrom-stop}
 use Rattle.memo.specs.Memo.{Rows, entry, height, payoffCount, payoffsOf, solutionAt}
 use Rattle.memo.specs.Visits.{Visits}
 use Rattle.memo.specs.declared.Visit.the-variants.{Solved}
 use Rattle.turns.specs.declared.Sums.{Sums}
-use Rattle.turns.specs.Sums.{Holds, countFault, weighedUp}
+use Rattle.turns.specs.Sums.{Holds, outcomeFault, weighedUp}
 use Rattle.turns.proofs.SumsTurns.{count-fault}
 use Rattle.entering.specs.Solving.{Weighing}
 use Rattle.entering.proofs.Entering.{fault-refused, no-fault}
@@ -36,7 +36,7 @@ use Rattle.solver.proofs.ReplyWalk.{solved-target}
 
 -- the solution of a chance node with these sums
 abbrev summed : ℕ → Answer (List Number) → Answer Solution
-summed e a = a >>= λ vs. inRange e vs >>= λ ws. done (record { terminal = none; actions = []; payoffs = ws })
+summed e a = a >>= weighed e
 
 -- one outcome with the answer of its target
 sums-turn : (f : Solver) (e : ℕ) (sums : Option (List Number)) (o : Chance) (os : List Chance) (x : Solution) → f (o .target) ≡ done x
@@ -76,7 +76,7 @@ module _ {method : Method} {s : List ℕ} {e i deepest : ℕ} {w : Sums} (walk :
       target-refused {k} {r} h q = next-outcome λ os l right. right k h ∙ ap (summed e) (sumsFrom-stop (solve method (gameOf s) k) e (walk .sums) o os r q)
 
       -- ---- the target's answer is in a row of the memo
-      module _ {m m′ : Rows} {left at : ℕ} (visit : Visits method s m m′ left (o .target) (Solved at)) {fault : Fault} (counted : fault ≡ countFault e (w .started) (w .count) (payoffCount (entry m′ at))) where
+      module _ {m m′ : Rows} {left at : ℕ} (visit : Visits method s m m′ left (o .target) (Solved at)) {fault : Fault} (counted : fault ≡ outcomeFault e (w .started) (w .count) (payoffCount (entry m′ at))) where
         abbrev target-payoffs : List Number
         target-payoffs = payoffsOf (entry m′ at .head) (entry m′ at .payoffs)
 

@@ -1,24 +1,23 @@
 -- One outcome more on the weighted sums, and the answer that the sums come to: what the code does is what the definition says, whether a sum is in range or not.
 use mathlib.Core.Path.{_≡_, refl, sym, ap, _∙_, subst}
-use mathlib.Core.Bool.{Bool, true, false, cond}
+use mathlib.Core.Bool.{true, false}
 use mathlib.Core.List.{List, [], _∷_, _++_, map, zipWith, List·Memᴰ}
 use mathlib.Core.Option.{Option, none, some}
 use Prim.Native.Nat.{ℕ, _+_, _<_, _≤_}
 use native.Mathlib.Omega.{arith}
 use lib.ListN.{length, take, length-map, take-append-drop}
 use lib.Seq.{length-take-le}
-use lib.Dec.{eqb}
 use lib.Ieee.{Float}
 use borrow.Author.Tests.{eqb-true}
 use Rattle.number.specs.Number.{Number, plus}
 use Rattle.number.specs.Meaning.{meaning}
 use Rattle.number.specs.Answers.{finiteOnly, plusProduct}
-use Rattle.answer.specs.declared.Refusal.{Refusal}
-use Rattle.answer.specs.Answer.{refused, done, faultIn}
+use Rattle.answer.specs.Fault.{Fault}
+use Rattle.answer.specs.Answer.{done, unless, faultIn}
 use Rattle.answer.proofs.AnswerLaws.{done-injective}
-use Rattle.answer.specs.Refusals.{inconsistentChancePayoffCount, noOutgoingChanceOutcomes, outOfRange}
+use Rattle.answer.specs.Refusals.{noOutgoingChanceOutcomes, outOfRange}
 use Rattle.backward_induction.specs.declared.Method.{Method}
-use Rattle.backward_induction.specs.Solve.{products, added}
+use Rattle.backward_induction.specs.Solve.{products, countFault, added}
 use Rattle.backward_induction.specs.Turns.{addedTo}
 use Rattle.backward_induction.proofs.SolveLaws.{in-range, not-in-range}
 use Rattle.backward_induction.proofs.Invert.{added-done}
@@ -28,25 +27,25 @@ use Rattle.memo.specs.declared.Visit.the-variants.{Solved, Refused}
 use Rattle.memo.specs.Memo.{Rows, stored}
 use Rattle.memo.specs.Visits.{KeptAs}
 use Rattle.turns.specs.declared.Sums.{Sums}
-use Rattle.turns.specs.Sums.{cells, Sized, Holds, countFault, SettledAs, weighedUp}
+use Rattle.turns.specs.Sums.{cells, Sized, Holds, outcomeFault, SettledAs, weighedUp}
 use Rattle.turns.proofs.Overwrite.{length-zipWith, map-take}
 use Rattle.turns.proofs.SumLaws.{finite-sums, all-in-range, out-of-range}
 
 -- 19 is a matter of how many payoffs there are
-added-fault : (e : ℕ) (xs : List Number) (p : Number) (vs : List Number) → cond (eqb (length vs) (length xs)) none (some (inconsistentChancePayoffCount e (length xs) (length vs))) ≡ faultIn (added e xs p vs)
+added-fault : (e : ℕ) (xs : List Number) (p : Number) (vs : List Number) → countFault e (length xs) (length vs) ≡ faultIn (added e xs p vs)
 unfolding added
-added-fault e xs p vs = go (eqb (length vs) (length xs)) (zipWith plus xs (products p vs)) (inconsistentChancePayoffCount e (length xs) (length vs))
+added-fault e xs p vs = go (countFault e (length xs) (length vs)) (zipWith plus xs (products p vs))
   where
-    go : (b : Bool) (ys : List Number) (r : Refusal) → cond b none (some r) ≡ faultIn {A = List Number} (elim b [ true ↦ done ys | false ↦ refused r ])
-    go true ys r = refl
-    go false ys r = refl
+    go : (f : Fault) (ys : List Number) → f ≡ faultIn {A = List Number} (unless f (done ys))
+    go none ys = refl
+    go (some r) ys = refl
 
 module _ (w : Sums) where
   not-both : {P : Type 0} → w .started ≡ true → w .started ≡ false → P
   not-both p q = let z : _≡_ {A = ℕ} 0 1 = cc in absurd (omega arith)
 
   -- ---- one outcome more
-  pub count-fault : (e : ℕ) (p : Number) (vs : List Number) (k : ℕ) → length vs ≡ k → (sofar : Option (List Number)) → Holds w sofar → countFault e (w .started) (w .count) k ≡ faultIn (addedTo e sofar p vs)
+  pub count-fault : (e : ℕ) (p : Number) (vs : List Number) (k : ℕ) → length vs ≡ k → (sofar : Option (List Number)) → Holds w sofar → outcomeFault e (w .started) (w .count) k ≡ faultIn (addedTo e sofar p vs)
   count-fault e p vs k n none h = rw (h .stand)
   count-fault e p vs k n (some xs) h = rw (h .stand .0, h .stand .1, ← n) (added-fault e xs p vs)
 

@@ -2,16 +2,15 @@
 use Prim.Native.Nat.{ℕ, _-_, _≤_}
 use mathlib.Core.Path.{_≡_}
 use mathlib.Core.Bool.{Bool, true, false, cond}
-use mathlib.Core.List.{List, [], map, List·Memᴰ}
+use mathlib.Core.List.{List, map, List·Memᴰ}
 use mathlib.Core.Option.{Option, none, some}
 use lib.ListN.{length, take, drop, replicate}
-use lib.Dec.{eqb}
 use Rattle.number.specs.Number.{Number, finite}
 use Rattle.number.specs.Answers.{finiteOnly, weighted}
 use Rattle.answer.specs.Fault.{Fault}
-use Rattle.answer.specs.Answer.{Answer, done, _>>=_, orRefuse}
-use Rattle.answer.specs.Refusals.{inconsistentChancePayoffCount, noOutgoingChanceOutcomes}
-use Rattle.backward_induction.specs.Solve.{Solution, inRange}
+use Rattle.answer.specs.Answer.{Answer, _>>=_, orRefuse}
+use Rattle.answer.specs.Refusals.{noOutgoingChanceOutcomes}
+use Rattle.backward_induction.specs.Solve.{Solution, countFault, weighed}
 use Rattle.turns.specs.declared.Sum.{Sum}
 use Rattle.turns.specs.declared.Sums.{Sums}
 
@@ -36,9 +35,9 @@ pub record Holds (w : Sums) (sums : Option (List Number)) : Type 0 where
   pub sized : Sized w
   pub stand : StandFor w sums
 
--- 19 where an outcome has k payoffs and those before it had n, if there are any
-abbrev pub countFault : ℕ → Bool → ℕ → ℕ → Fault
-countFault e started n k = cond started (cond (eqb k n) none (some (inconsistentChancePayoffCount e n k))) none
+-- 19 of an outcome with k payoffs, where there are others before it, with n
+abbrev pub outcomeFault : ℕ → Bool → ℕ → ℕ → Fault
+outcomeFault e started n k = cond started (countFault e n k) none
 
 -- all sums are in range, and are the first of these numbers, after which each is 0; or one is not
 abbrev pub SettledAs : Bool → List (Option Number) → List Number → Type 0
@@ -48,6 +47,4 @@ SettledAs false ws ns = List·Memᴰ none ws
 -- the answer of the chance node e, with the sums over all its outcomes: 17 where there is no outcome, 25 where a sum is out of range
 abbrev pub weighedUp : ℕ → Option (List Number) → Answer Solution
 weighedUp e sums =
-    orRefuse sums (noOutgoingChanceOutcomes e) >>= λ xs.
-    inRange e xs >>= λ ws.
-    done (record { terminal = none; actions = []; payoffs = ws })
+    orRefuse sums (noOutgoingChanceOutcomes e) >>= weighed e

@@ -16,7 +16,7 @@ ghost use Rattle.backward_induction.specs.declared.Method.{Method};
 ghost use Rattle.memo.specs.Memo.{rows, entry, payoffsOf, PayoffRoom, Within, Filled, Memo, Tells, solutionAt};
 ghost use Rattle.memo.specs.Visits.{Keeps, KeptAs};
 ghost use Rattle.turns.specs.Replies.{replyIn, leadIn, decided, betterOf, KeptIn, Replied, Extendable, ExtendableBest};
-ghost use Rattle.turns.specs.Sums.{weighedUp, cells, Sized, Holds, countFault, SettledAs};
+ghost use Rattle.turns.specs.Sums.{weighedUp, cells, Sized, Holds, outcomeFault, SettledAs};
 use answer::Check;
 use answer::Refusal;
 use game::ActionEdge;
@@ -210,7 +210,7 @@ pub fn outcome_fault(
     row: usize,
 ) -> Check
     requires { ⌜ row < length (now heads) ⌝ }
-    ensures { λ r. ⌜ faultOf r ≡ countFault entity started expected (getD (getD (now (heads .entry)) row []) 4 0) ⌝ }
+    ensures { λ r. ⌜ faultOf r ≡ outcomeFault entity started expected (getD (getD (now (heads .entry)) row []) 4 0) ⌝ }
 {
     let head = heads[row];
     let count = memo::wide(head[4]);

@@ -6,12 +6,14 @@
 //!        damage FOLDER exact SEED COUNT      a lent buffer is an allocation of its own, for valgrind
 //!        damage FOLDER threads SEED COUNT    four threads at once must give the answers of one
 //!
+//! COUNT is that of the sheets whose bytes are damaged; half as many come besides that have only rows changed.
 //! A sheet is always an allocation of its own, exactly as long as it is. One that shows a fault is kept in FOLDER.
 
 #[allow(dead_code)]
 #[path = "../../differential/src/answer.rs"]
 mod answer;
 mod check;
+#[allow(dead_code)]
 #[path = "../../differential/src/damage.rs"]
 mod damage;
 #[allow(dead_code)]
@@ -19,6 +21,8 @@ mod damage;
 mod draft;
 #[path = "../../differential/src/generate.rs"]
 mod generate;
+#[path = "../../differential/src/last.rs"]
+mod last;
 #[allow(dead_code)]
 #[path = "../../differential/src/library.rs"]
 mod library;
@@ -27,26 +31,35 @@ mod random;
 #[allow(dead_code)]
 #[path = "../../differential/src/sheet.rs"]
 mod sheet;
+#[path = "../../differential/src/tally.rs"]
 mod tally;
 mod threads;
 
 use answer::{lent, Answer, Call, VARIANTS};
 use check::{check, Fault};
+use damage::Harm;
 use draft::Draft;
+use last::Last;
 use random::Random;
 use std::error::Error;
-use std::fs::{self, File};
-use std::os::unix::fs::FileExt;
+use std::fs;
 use std::path::Path;
 use std::process::ExitCode;
 use std::time::Instant;
 use tally::Tally;
 
-/// A run of so many sheets must reach every refusal number.
-const REACHES_ALL: u64 = 5_000;
+/// The first sheets of a run, so many of them, come with a call of each variant of Kuhn poker.
+const KUHN_SHEETS: u64 = 100;
 
-/// One sheet in so many comes with a call of Kuhn poker.
-const KUHN_EVERY: usize = 100;
+/// What is done to sheet `index`. Damaged bytes seldom open, so that every third sheet has only rows changed.
+fn harm(index: u64) -> Harm {
+    [Harm::Bytes, Harm::Both, Harm::Rows][index as usize % 3]
+}
+
+/// How many sheets there are in a run in which so many have damaged bytes.
+fn sheets(damaged: u64) -> u64 {
+    damaged + damaged / 2
+}
 
 /// A damaged sheet and the calls on it.
 struct Subject {
@@ -64,8 +77,12 @@ impl Subject {
     /// Sheet `index` under a seed.
     fn new(seed: u64, index: u64) -> Subject {
         let random = &mut Random::new(seed, index);
-        let (draft, bytes) = damaged(random);
-        Subject { bytes: bytes.into_boxed_slice(), calls: calls(&draft, random) }
+        let (draft, bytes) = damage::make(harm(index), random);
+        let mut calls = calls(&draft, random).to_vec();
+        if index < KUHN_SHEETS {
+            calls.extend(kuhn_calls(index, random));
+        }
+        Subject { bytes: bytes.into_boxed_slice(), calls }
     }
 
     /// The answers to the calls, and to those that ask for a listing again.
@@ -116,48 +133,29 @@ fn put(call: &Call, sheet: &[u8], exact: bool) -> Result<Answer, Faulty> {
     }
 }
 
-/// A sheet with rows changed, or bytes damaged, or both; and its rows before its bytes were. Damaged bytes seldom open,
-/// so that most sheets have changed rows alone.
-fn damaged(random: &mut Random) -> (Draft, Vec<u8>) {
-    let mut draft = generate::fit(random);
-    let fit = draft.encode();
-    loop {
-        let kind = random.below(5);
-        if kind != 0 {
-            for _ in 0..random.between(1, 3) {
-                damage::change_rows(&mut draft, random);
-            }
-        }
-        let mut bytes = draft.encode();
-        if kind < 2 {
-            for _ in 0..random.pick(&[1, 1, 1, 2]) {
-                damage::damage(&mut bytes, random);
-            }
-        }
-        if bytes != fit {
-            return (draft, bytes);
-        }
-    }
-}
-
-/// The five calls on a sheet and sometimes one of Kuhn poker.
-fn calls(draft: &Draft, random: &mut Random) -> Vec<Call> {
+/// The five calls on a sheet.
+fn calls(draft: &Draft, random: &mut Random) -> [Call; 5] {
     let [solve, plain, paths] = [(); 3].map(|_| damage::any_place(draft, random));
     let [path_room, set_room] = [(); 2].map(|_| random.pick(&[0, 1, 4, 12, 60, 400, 5_000]));
-    let mut calls = vec![
+    [
         Call::Solve { start: solve.0, limit: solve.1 },
         Call::SolvePlain { start: plain.0, limit: plain.1 },
         Call::Paths { start: paths.0, limit: paths.1, room: path_room },
         Call::Sets { room: set_room },
         Call::Topology,
-    ];
-    if random.one_in(KUHN_EVERY) {
-        let small = random.below(200) as u64;
-        let past = 1_000_001 + random.below(9) as u64;
-        let iterations = random.pick(&[small, small, past, u64::MAX - small]);
-        calls.push(Call::Kuhn { variant: random.pick(&VARIANTS), iterations });
-    }
-    calls
+    ]
+}
+
+/// A call of each variant of Kuhn poker: with the most iterations first, then with few or with too many.
+fn kuhn_calls(index: u64, random: &mut Random) -> [Call; 3] {
+    let small = random.below(200) as u64;
+    let iterations = match index % 10 {
+        _ if index == 0 => 1_000_000,
+        8 => 1_000_001 + small,
+        9 => u64::MAX - small,
+        _ => small,
+    };
+    VARIANTS.map(|variant| Call::Kuhn { variant, iterations })
 }
 
 fn main() -> Result<ExitCode, Box<dyn Error>> {
@@ -169,8 +167,8 @@ fn main() -> Result<ExitCode, Box<dyn Error>> {
     let begun = Instant::now();
     let mut tally = Tally::default();
     let outcome = match mode.as_str() {
-        "threads" => threads::run(seed, count, &mut tally),
-        mode => run(&File::create(folder.join("last.kgs"))?, mode == "exact", seed, count, &mut tally)?,
+        "threads" => threads::run(seed, sheets(count), &mut tally),
+        mode => run(&Last::new(folder)?, mode == "exact", seed, sheets(count), &mut tally)?,
     };
     if let Err((index, Faulty { call, fault })) = outcome {
         let kept = folder.join("fault.kgs");
@@ -178,28 +176,25 @@ fn main() -> Result<ExitCode, Box<dyn Error>> {
         println!("{fault}: seed {seed}, sheet {index}, {call:?}, kept as {}", kept.display());
         return Ok(ExitCode::FAILURE);
     }
+    print!("{tally}");
+    let changed = sheets(count) - count;
+    println!("damage: {mode}, seed {seed}: {count} sheets with damaged bytes, {changed} with only rows changed");
     let again = if mode == "threads" { ", each made again by four threads at once, twice" } else { "" };
-    let seconds = begun.elapsed().as_secs_f64();
-    println!("damage: {mode}, seed {seed}, {count} sheets, {tally}{again}; {seconds:.0} s");
-    let unreached = tally.unreached();
-    if count >= REACHES_ALL && !unreached.is_empty() {
-        println!("refusal numbers that no sheet reached: {unreached:?}");
-        return Ok(ExitCode::FAILURE);
-    }
-    Ok(ExitCode::SUCCESS)
+    let (calls, kuhn, seconds) = (tally.calls(), KUHN_SHEETS.min(sheets(count)), begun.elapsed().as_secs_f64());
+    println!("{calls} calls without a fault, {kuhn} of each variant of Kuhn poker{again}; {seconds:.0} s");
+    Ok(if tally.reached_all(count) { ExitCode::SUCCESS } else { ExitCode::FAILURE })
 }
 
 /// What became of a run: the number of a sheet that shows a fault, and the fault.
 type Outcome = Result<(), (u64, Faulty)>;
 
-/// One thread over all sheets. The sheet stays in the file `last` if the library does not come back.
-fn run(last: &File, exact: bool, seed: u64, count: u64, tally: &mut Tally) -> std::io::Result<Outcome> {
-    for index in 0..count {
+/// One thread over all sheets. The last one stays behind if the library does not come back.
+fn run(last: &Last, exact: bool, seed: u64, sheets: u64, tally: &mut Tally) -> std::io::Result<Outcome> {
+    for index in 0..sheets {
         let subject = Subject::new(seed, index);
-        last.write_all_at(&subject.bytes, 0)?;
-        last.set_len(subject.bytes.len() as u64)?;
+        last.keep(&subject.bytes)?;
         match subject.answers(exact) {
-            Ok(answers) => tally.add(&answers),
+            Ok(answers) => answers.iter().for_each(|(call, answer)| tally.add(call, answer)),
             Err(faulty) => return Ok(Err((index, faulty))),
         }
     }

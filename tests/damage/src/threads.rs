@@ -19,15 +19,15 @@ struct Answered {
     answers: Vec<(Call, Answer)>,
 }
 
-pub fn run(seed: u64, count: u64, tally: &mut Tally) -> Outcome {
+pub fn run(seed: u64, sheets: u64, tally: &mut Tally) -> Outcome {
     let mut from = 0;
-    while from < count {
-        let to = count.min(from + BATCH);
+    while from < sheets {
+        let to = sheets.min(from + BATCH);
         let mut list = Vec::new();
         for index in from..to {
             let subject = Subject::new(seed, index);
             let answers = subject.answers(false).map_err(|faulty| (index, faulty))?;
-            tally.add(&answers);
+            answers.iter().for_each(|(call, answer)| tally.add(call, answer));
             list.push(Answered { index, bytes: subject.bytes, answers });
         }
         at_once(&list, false)?;

@@ -120,6 +120,11 @@ impl Draft {
         self.sections[PAYOFFS].splice(start..end, rows);
     }
 
+    /// How many bytes the sheet has.
+    pub fn size(&self) -> usize {
+        HEADER + self.sections.iter().zip(WIDTHS).map(|(rows, width)| rows.len() * width).sum::<usize>()
+    }
+
     /// The sheet.
     pub fn encode(&self) -> Vec<u8> {
         let mut bytes = MARK.to_vec();

@@ -1,5 +1,5 @@
-//! Sheets of many shapes: trees, shared nodes, lines around the depth limits, fans, loops, full sections; with
-//! payoffs and probabilities that try the rounding, and labels and sets that try the comparison of texts.
+//! Sheets of many shapes: trees, shared nodes, lines around the depth limits, fans, loops, full sections, sheets as long
+//! as can be; with payoffs and probabilities that try the rounding, and labels and sets that try the comparison of texts.
 
 use crate::draft::{field, row, Draft};
 use crate::random::Random;
@@ -38,7 +38,7 @@ enum Edges {
     AsTargets,
 }
 
-/// How entities are numbered.
+/// How entities or sets are numbered.
 #[derive(Clone, Copy)]
 enum Numbering {
     Rising,
@@ -93,7 +93,8 @@ struct Grower<'a> {
     nodes_left: usize,
 }
 
-/// A sheet that opens, unless a section has a row too many, though calls on it may be refused by 11 and above.
+/// A sheet that opens, unless a section has a row too many or the rows are too long in all; calls on it may be refused by
+/// 11 and above.
 pub fn fit(random: &mut Random) -> Draft {
     let shape = random.below(16);
     let mut grower = Grower::new(random);
@@ -105,7 +106,11 @@ pub fn fit(random: &mut Random) -> Draft {
         13 => grower.fan(),
         14 => {
             let root = grower.tree(0, &mut Vec::new());
-            grower.fill_a_section();
+            match grower.random.below(8) {
+                0 => grower.fill_to(LONGEST - 1),
+                1 => grower.fill_to(LONGEST),
+                _ => grower.fill_a_section(),
+            }
             root
         }
         _ => {
@@ -314,10 +319,14 @@ impl<'a> Grower<'a> {
         below[below.len() - 1]
     }
 
-    /// One node with many edges.
+    /// One node with many edges. Where they are as many as there can be, they are no nodes and lead to few.
     fn fan(&mut self) -> u32 {
-        let edges = self.random.pick(&[9, 64, 65, 200, 500]);
-        let targets: Vec<u32> = if self.random.one_in(2) {
+        let edges = self.random.pick(&[9, 64, 65, 200, 500, LIMITS[CHILDREN]]);
+        let is_full = edges == LIMITS[CHILDREN];
+        if is_full {
+            self.edges = Edges::Apart;
+        }
+        let targets: Vec<u32> = if self.random.one_in(2) && !is_full {
             (0..edges).map(|_| self.terminal()).collect()
         } else {
             let few: Vec<u32> = (0..4).map(|_| self.terminal()).collect();
@@ -333,35 +342,61 @@ impl<'a> Grower<'a> {
     fn fill_a_section(&mut self) {
         let section = self.random.below(10);
         let rows = self.random.between(LIMITS[section] - 1, LIMITS[section] + 1);
-        let label = self.labels[0][0];
         while self.draft.sections[section].len() < rows {
-            let entity = self.entity();
-            let known = self.random.pick(&self.done);
-            match section {
-                NODES => {
-                    self.inner(entity);
-                }
-                CHILDREN | TRANSITIONS => self.draft.sections[section].push(row([entity, known])),
-                ACTIONS => self.draft.action_row(entity, label, known),
-                CHANCES => self.draft.chance_row(entity, label, known, 0.5),
-                TERMINALS => self.draft.payoffs(entity, &[1.0]),
-                PAYOFFS => {
-                    let count = (rows - self.draft.sections[PAYOFFS].len()).min(8);
-                    self.draft.payoffs(entity, &vec![1.0; count]);
-                }
-                SETS => {
-                    if self.draft.sections[NODES].len() < LIMITS[NODES] {
-                        self.draft.decision(entity, 0);
-                    }
-                    let id = self.random.below(300) as u64;
-                    self.draft.set(entity, 0, id);
-                }
-                LABELS => {
-                    let text = self.random.pick(&["", "", "a"]);
-                    self.draft.label(text);
-                }
-                _ => self.draft.sections[TEXT].push(vec![b'x']),
+            self.add_row(section, rows - self.draft.sections[section].len());
+        }
+    }
+
+    /// Fills the sheet to so many bytes: with fit rows, many of them of one section, until text can fill what is left.
+    fn fill_to(&mut self, size: usize) {
+        let sections = [NODES, CHILDREN, ACTIONS, CHANCES, TRANSITIONS, TERMINALS, PAYOFFS, SETS];
+        let often = self.random.pick(&sections);
+        // where there is a set row, none comes later
+        self.add_row(SETS, 1);
+        while self.draft.size() + LIMITS[TEXT] < size + self.draft.sections[TEXT].len() {
+            let section = if self.random.one_in(2) { often } else { self.random.pick(&sections) };
+            if self.has_room(section) {
+                self.add_row(section, 8);
             }
+        }
+        self.draft.sections[TEXT].resize(self.draft.sections[TEXT].len() + size - self.draft.size(), vec![b'x']);
+    }
+
+    /// Whether a row more leaves the section, and what comes with the row, within their limits.
+    fn has_room(&self, section: usize) -> bool {
+        let fits = |section: usize, more: usize| self.draft.sections[section].len() + more <= LIMITS[section];
+        match section {
+            TERMINALS | PAYOFFS => fits(TERMINALS, 1) && fits(PAYOFFS, 8),
+            _ => fits(section, 1),
+        }
+    }
+
+    /// Adds a fit row to a section; payoffs, which come with a terminal row, are at most 8 and at most `left`.
+    fn add_row(&mut self, section: usize, left: usize) {
+        let label = self.labels[0][0];
+        let entity = self.entity();
+        let known = self.random.pick(&self.done);
+        match section {
+            NODES => {
+                self.inner(entity);
+            }
+            CHILDREN | TRANSITIONS => self.draft.sections[section].push(row([entity, known])),
+            ACTIONS => self.draft.action_row(entity, label, known),
+            CHANCES => self.draft.chance_row(entity, label, known, 0.5),
+            TERMINALS => self.draft.payoffs(entity, &[1.0]),
+            PAYOFFS => self.draft.payoffs(entity, &vec![1.0; left.min(8)]),
+            SETS => {
+                if self.draft.sections[NODES].len() < LIMITS[NODES] {
+                    self.draft.decision(entity, 0);
+                }
+                let id = self.random.below(300) as u64;
+                self.draft.set(entity, 0, id);
+            }
+            LABELS => {
+                let text = self.random.pick(&["", "", "a"]);
+                self.draft.label(text);
+            }
+            _ => self.draft.sections[TEXT].push(vec![b'x']),
         }
     }
 
@@ -387,12 +422,12 @@ impl<'a> Grower<'a> {
         }
     }
 
-    /// Sets of decisions with one player and the same texts in the same order, their ids falling or any.
+    /// Sets of decisions with one player and the same texts in the same order, their ids rising by row, falling or any.
     fn make_sets(&mut self) {
         if !self.draft.sections[SETS].is_empty() {
             return;
         }
-        let any_id = self.random.one_in(2);
+        let numbering = self.random.pick(&[Numbering::Rising, Numbering::Falling, Numbering::AnyNumber]);
         let mut ids: BTreeMap<(u32, Vec<usize>), u64> = BTreeMap::new();
         let mut rows = Vec::new();
         for node in self.draft.sections[NODES].iter().take(60) {
@@ -400,7 +435,11 @@ impl<'a> Grower<'a> {
             if kind != 0 || self.random.one_in(4) {
                 continue;
             }
-            let id = if any_id { self.random.next() } else { 100 - ids.len() as u64 };
+            let id = match numbering {
+                Numbering::Rising => ids.len() as u64,
+                Numbering::Falling => 100 - ids.len() as u64,
+                Numbering::AnyNumber => self.random.next(),
+            };
             let id = *ids.entry((player, self.texts(entity))).or_insert(id);
             rows.push((entity, player, id));
         }

@@ -1,14 +1,12 @@
 //! Puts a call to every side and says whether they agree.
 
-use crate::answer::{refusal, Answer, Call, Refusal, KINDS};
+use crate::answer::{refusal, Answer, Call, Refusal};
 use crate::oracle::{self, Outcome, Stores};
 use crate::reference::{depth, Game, Walked};
-use std::fs;
-use std::io;
-use std::path::PathBuf;
+use std::fmt;
 
 /// The Rust, which keeps nothing of what it has solved, is not asked for a walk of more visits.
-const MOST_VISITS: u64 = 5_000;
+const MOST_VISITS: u64 = 200_000;
 
 /// The greatest number of iterations that is not refused.
 const MOST_ITERATIONS: u64 = 1_000_000;
@@ -54,6 +52,14 @@ impl Difference {
     }
 }
 
+impl fmt::Display for Difference {
+    /// A line for each side.
+    fn fmt(&self, f: &mut fmt::Formatter) -> fmt::Result {
+        let [(side, answer), (other, other_answer)] = &self.0;
+        write!(f, "  {side}: {answer}\n  {other}: {other_answer}")
+    }
+}
+
 /// The first place where two lists differ, and what each has there.
 fn first_difference(ours: &[u64], theirs: &[u64]) -> [String; 2] {
     let place = ours.iter().zip(theirs).take_while(|(ours, theirs)| ours == theirs).count();
@@ -63,47 +69,64 @@ fn first_difference(ours: &[u64], theirs: &[u64]) -> [String; 2] {
     })
 }
 
-/// The answer that a call must have, and whether the Rust gave it too.
+/// The answer that a call must have.
 pub struct Expected {
     pub answer: Answer,
+    /// Whether the Rust gave it too.
     pub asked: bool,
+    /// Whether the Rust was left out because its walk is too long.
+    pub too_long: bool,
+}
+
+/// An answer that the Rust has nothing to say about.
+fn unasked(answer: Answer) -> Expected {
+    Expected { answer, asked: false, too_long: false }
 }
 
 /// The answer that document 01 and, where it answers, the Rust give.
 pub fn expected(subject: &Subject, call: &Call) -> Result<Expected, Difference> {
-    let unasked = |answer| Ok(Expected { answer, asked: false });
-    match *call {
-        Call::Kuhn { iterations, .. } if iterations > MOST_ITERATIONS => {
-            return unasked(call.refused(refusal(28, [iterations])));
-        }
-        Call::Kuhn { variant, iterations } => {
-            return Ok(Expected { answer: oracle::kuhn(variant, iterations), asked: true });
-        }
-        Call::Solve { limit, .. } | Call::SolvePlain { limit, .. } | Call::Paths { limit, .. } => {
-            if let Err(refusal) = depth(limit) {
-                return unasked(call.refused(refusal));
-            }
-        }
-        Call::Sets { .. } | Call::Topology => {}
+    if let Some(refusal) = refused_unopened(call) {
+        return Ok(unasked(call.refused(refusal)));
     }
-    let sides = ["the reference", "the Rust"];
-    let (game, stores) = match (&subject.game, &subject.stores) {
-        (Err(refusal), _) if refusal.number < 6 => return unasked(call.refused(*refusal)),
-        (Ok(game), Ok(stores)) => (game, stores),
+    if let Call::Kuhn { variant, iterations } = *call {
+        return Ok(Expected { answer: oracle::kuhn(variant, iterations), asked: true, too_long: false });
+    }
+    match (&subject.game, &subject.stores) {
+        (Err(refusal), _) if refusal.number < 6 => Ok(unasked(call.refused(*refusal))),
+        (Ok(game), Ok(stores)) => walked(game, stores, call),
         (game, stores) => {
             let ours = call.refused(game.as_ref().err().copied().unwrap_or_default());
             let theirs = call.refused(stores.as_ref().err().copied().unwrap_or_default());
-            return match Difference::between(sides, [&ours, &theirs]) {
-                Some(difference) => Err(difference),
-                None => Ok(Expected { answer: ours, asked: true }),
-            };
+            agreed(ours, Outcome::Answered(theirs))
         }
-    };
-    let Walked { answer, visits } = game.answer(call);
-    if answer.refusal().number == 24 || visits > MOST_VISITS {
-        return unasked(answer);
     }
-    let difference = match stores.answer(call) {
+}
+
+/// What is refused before the sheet is looked at: 27 or 28.
+fn refused_unopened(call: &Call) -> Option<Refusal> {
+    match *call {
+        Call::Solve { limit, .. } | Call::SolvePlain { limit, .. } | Call::Paths { limit, .. } => depth(limit).err(),
+        Call::Kuhn { iterations, .. } if iterations > MOST_ITERATIONS => Some(refusal(28, [iterations])),
+        Call::Sets { .. } | Call::Topology | Call::Kuhn { .. } => None,
+    }
+}
+
+/// The answer to a call on a sheet that opens. The Rust, which has no limit, is not asked where the answer is 24.
+fn walked(game: &Game, stores: &Stores, call: &Call) -> Result<Expected, Difference> {
+    let Walked { answer, visits } = game.answer(call);
+    if answer.refusal().number == 24 {
+        return Ok(unasked(answer));
+    }
+    if visits > MOST_VISITS {
+        return Ok(Expected { answer, asked: false, too_long: true });
+    }
+    agreed(answer, stores.answer(call))
+}
+
+/// The reference's answer, if the Rust gave it too; its panic stands for 25.
+fn agreed(answer: Answer, theirs: Outcome) -> Result<Expected, Difference> {
+    let sides = ["the reference", "the Rust"];
+    let difference = match theirs {
         Outcome::Answered(theirs) => Difference::between(sides, [&answer, &theirs]),
         Outcome::OutOfRange if answer.refusal().number == 25 => None,
         Outcome::OutOfRange => {
@@ -113,8 +136,15 @@ pub fn expected(subject: &Subject, call: &Call) -> Result<Expected, Difference> 
     };
     match difference {
         Some(difference) => Err(difference),
-        None => Ok(Expected { answer, asked: true }),
+        None => Ok(Expected { answer, asked: true, too_long: false }),
     }
+}
+
+/// The answer that a call must have, if the library gave it too.
+pub fn verdict(subject: &Subject, call: &Call) -> Result<Expected, Difference> {
+    let expected = expected(subject, call)?;
+    compare_library(subject, call, &expected.answer)?;
+    Ok(expected)
 }
 
 /// At most 100 words of an answer, small ones in decimal, the others in hexadecimal.
@@ -126,87 +156,6 @@ pub fn show(words: &[u64]) -> String {
         .collect();
     let more = if words.len() > 100 { " .." } else { "" };
     format!("{}{more}", shown.join(" "))
-}
-
-/// Compares, counts and keeps what differs.
-pub struct Judge {
-    folder: PathBuf,
-    /// How many calls of each kind had each refusal number.
-    tally: [[u64; 29]; KINDS.len()],
-    asked: u64,
-    pub differences: u64,
-}
-
-impl Judge {
-    /// A judge that keeps sheets in this folder.
-    pub fn new(folder: PathBuf) -> Judge {
-        Judge { folder, tally: [[0; 29]; KINDS.len()], asked: 0, differences: 0 }
-    }
-
-    /// Notes which sheet comes next: it stays behind if the library does not come back.
-    pub fn start(&self, subject: &Subject) -> io::Result<()> {
-        if cfg!(library) {
-            fs::write(self.folder.join("last.kgs"), &subject.bytes)?;
-        }
-        Ok(())
-    }
-
-    /// Puts the call to every side. The answer is `None` where they differ.
-    pub fn judge(&mut self, subject: &Subject, call: &Call, name: &str) -> io::Result<Option<Answer>> {
-        let verdict = expected(subject, call).and_then(|expected| {
-            compare_library(subject, call, &expected.answer)?;
-            Ok(expected)
-        });
-        match verdict {
-            Ok(expected) => {
-                self.tally[call.kind()][expected.answer.refusal().number as usize] += 1;
-                self.asked += u64::from(expected.asked);
-                Ok(Some(expected.answer))
-            }
-            Err(difference) => {
-                self.differ(subject, call, name, difference)?;
-                Ok(None)
-            }
-        }
-    }
-
-    /// Reports a difference and keeps its sheet.
-    pub fn differ(&mut self, subject: &Subject, call: &Call, name: &str, difference: Difference) -> io::Result<()> {
-        self.differences += 1;
-        let kept = self.folder.join(format!("difference-{}.kgs", self.differences));
-        fs::write(&kept, &subject.bytes)?;
-        println!("difference {}: {name}, {call:?}, sheet {}", self.differences, kept.display());
-        for (side, answer) in difference.0 {
-            println!("  {side}: {answer}");
-        }
-        Ok(())
-    }
-
-    /// The numbers from 1 to 28 that no call had.
-    pub fn unreached(&self) -> Vec<usize> {
-        (1..=28).filter(|&number| self.tally.iter().all(|counts| counts[number] == 0)).collect()
-    }
-
-    /// Prints how many calls had each refusal number.
-    pub fn print(&self) {
-        print!("{:>8}", "refusal");
-        for kind in KINDS {
-            print!("{kind:>10}");
-        }
-        println!();
-        for number in 0..=28 {
-            print!("{number:>8}");
-            for counts in &self.tally {
-                match counts[number] {
-                    0 => print!("{:>10}", "."),
-                    count => print!("{count:>10}"),
-                }
-            }
-            println!();
-        }
-        let calls: u64 = self.tally.iter().flatten().sum();
-        println!("{calls} calls agree; the Rust was asked in {}", self.asked);
-    }
 }
 
 #[cfg(library)]

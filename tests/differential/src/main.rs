@@ -2,7 +2,7 @@
 //!
 //! Usage: differential FOLDER run SEED COUNT
 //!        differential FOLDER vectors FILE
-//!        differential FOLDER sheet FILE START LIMIT
+//!        differential FOLDER sheet FILE START LIMIT [ROOM]
 //!
 //! Sheets that show a difference are kept in FOLDER. Built without a library, reference and Rust are compared alone.
 
@@ -12,27 +12,31 @@ mod draft;
 mod fixed;
 mod generate;
 mod judge;
+mod last;
 #[cfg(library)]
 mod library;
 mod oracle;
 mod random;
+mod record;
 mod reference;
 mod sheet;
+mod tally;
 mod vectors;
 
 use answer::{Answer, Call, VARIANTS};
+use damage::Harm;
 use draft::Draft;
 use fixed::Says;
-use judge::{show, Difference, Judge, Subject};
+use judge::{show, verdict, Difference, Expected, Subject};
 use random::Random;
+use record::Record;
 use std::error::Error;
 use std::fs;
 use std::path::PathBuf;
 use std::process::ExitCode;
 use vectors::Vectors;
 
-/// A run of so many sheets must reach every refusal number.
-const REACHES_ALL: u64 = 5_000;
+const USAGE: &str = "usage: differential FOLDER run SEED COUNT | vectors FILE | sheet FILE START LIMIT [ROOM]";
 
 /// Differences after which a run stops.
 const ENOUGH: u64 = 10;
@@ -47,95 +51,93 @@ fn main() -> Result<ExitCode, Box<dyn Error>> {
     let agreed = match words[..] {
         [folder, "run", seed, count] => run(folder.into(), seed.parse()?, count.parse()?)?,
         [folder, "vectors", file] => store(folder.into(), file)?,
-        [folder, "sheet", file, start, limit] => show_sheet(folder.into(), file, start.parse()?, limit.parse()?)?,
-        _ => return Err("usage: differential FOLDER run SEED COUNT | vectors FILE | sheet FILE START LIMIT".into()),
+        [_, "sheet", file, start, limit] => show_sheet(file, start.parse()?, limit.parse()?, None)?,
+        [_, "sheet", file, start, limit, room] => {
+            show_sheet(file, start.parse()?, limit.parse()?, Some(room.parse()?))?
+        }
+        _ => return Err(USAGE.into()),
     };
     Ok(if agreed { ExitCode::SUCCESS } else { ExitCode::FAILURE })
 }
 
 /// The fixed list, then generated sheets and some Kuhn calls.
 fn run(folder: PathBuf, seed: u64, count: u64) -> Result<bool, Box<dyn Error>> {
-    let mut judge = Judge::new(folder.clone());
-    judge_fixed(&mut judge, |_, _, _| ())?;
-    if judge.differences > 0 {
+    let mut record = Record::new(folder.clone())?;
+    put_fixed(&mut record, |_, _, _| ())?;
+    if record.differences > 0 {
         return Ok(false);
     }
     println!("the fixed list");
-    judge.print();
+    record.print();
 
-    let mut judge = Judge::new(folder);
+    let mut record = Record::new(folder)?;
     for index in 0..count {
         let mut random = Random::new(seed, index);
-        let (draft, bytes) = make(&mut random);
-        let subject = Subject::new(bytes);
-        judge.start(&subject)?;
+        let harm = any_harm(&mut random);
+        let (draft, bytes) = damage::make(harm, &mut random);
+        let subject = record.open(bytes)?;
         for call in calls(&draft, &subject, &mut random) {
-            judge.judge(&subject, &call, &format!("seed {seed}, sheet {index}"))?;
+            record.put(&subject, &call, &format!("seed {seed}, sheet {index}"))?;
         }
-        if judge.differences >= ENOUGH {
+        if record.differences >= ENOUGH {
             break;
         }
     }
+    put_kuhn(&mut record, seed, count)?;
+    println!("seed {seed}, {count} sheets");
+    record.print();
+    Ok(record.tally.reached_all(count) && record.differences == 0)
+}
+
+/// Some calls of Kuhn poker.
+fn put_kuhn(record: &mut Record, seed: u64, count: u64) -> Result<(), Box<dyn Error>> {
     let mut random = Random::new(seed, count);
-    let nothing = Subject::new(Vec::new());
+    let nothing = record.open(Vec::new())?;
     for _ in 0..12 {
         let most = random.pick(&[10, 300, 3_000]);
         let past = 1_000_001 + random.next() % 1_000;
         let iterations = if random.one_in(4) { past } else { random.below(most) as u64 };
         let call = Call::Kuhn { variant: random.pick(&VARIANTS), iterations };
-        judge.judge(&nothing, &call, &format!("seed {seed}"))?;
-    }
-    println!("seed {seed}, {count} sheets");
-    judge.print();
-    let unreached = judge.unreached();
-    if !unreached.is_empty() {
-        println!("refusal numbers that no generated sheet reached: {unreached:?}");
-    }
-    Ok(judge.differences == 0 && (unreached.is_empty() || count < REACHES_ALL))
-}
-
-/// Puts the fixed list to every side and to what 01 says; `found` is given each case's sheet, call and answer.
-fn judge_fixed(judge: &mut Judge, mut found: impl FnMut(&[u8], &Call, &Answer)) -> Result<(), Box<dyn Error>> {
-    for case in fixed::list() {
-        if judge.differences >= ENOUGH {
-            break;
-        }
-        let subject = Subject::new(case.sheet);
-        judge.start(&subject)?;
-        let Some(answer) = judge.judge(&subject, &case.call, case.name)? else { continue };
-        let sides = ["01", "every side"];
-        let difference = match &case.says {
-            Says::Refused(refusal) => Difference::between(sides, [&case.call.refused(*refusal), &answer]),
-            Says::Answered(said) => Difference::between(sides, [said, &answer]),
-            Says::Accepted if answer.refusal().number == 0 => None,
-            Says::Accepted => {
-                Some(Difference([(sides[0], "no refusal".to_owned()), (sides[1], show(&answer.words()))]))
-            }
-        };
-        if let Some(difference) = difference {
-            judge.differ(&subject, &case.call, case.name, difference)?;
-        }
-        found(&subject.bytes, &case.call, &answer);
+        record.put(&nothing, &call, &format!("seed {seed}"))?;
     }
     Ok(())
 }
 
-/// A sheet: fit, or with rows changed, or damaged; and its rows before the damage.
-fn make(random: &mut Random) -> (Draft, Vec<u8>) {
-    let mut draft = generate::fit(random);
-    let kind = random.below(10);
-    if (5..8).contains(&kind) {
-        for _ in 0..random.between(1, 3) {
-            damage::change_rows(&mut draft, random);
+/// Puts the fixed list to every side and to what 01 says; `found` is given each case's sheet, call and answer.
+fn put_fixed(record: &mut Record, mut found: impl FnMut(&[u8], &Call, &Expected)) -> Result<(), Box<dyn Error>> {
+    for case in fixed::list() {
+        if record.differences >= ENOUGH {
+            break;
         }
-    }
-    let mut bytes = draft.encode();
-    if kind >= 8 {
-        for _ in 0..random.pick(&[1, 1, 1, 2]) {
-            damage::damage(&mut bytes, random);
+        let subject = record.open(case.sheet)?;
+        let Some(expected) = record.put(&subject, &case.call, case.name)? else { continue };
+        if let Some(difference) = unlike(&case.says, &case.call, &expected.answer) {
+            record.differ(&subject, &case.call, case.name, difference)?;
         }
+        found(&subject.bytes, &case.call, &expected);
     }
-    (draft, bytes)
+    Ok(())
+}
+
+/// How the answer that every side gave differs from what 01 says, if it does.
+fn unlike(says: &Says, call: &Call, answer: &Answer) -> Option<Difference> {
+    let sides = ["01", "every side"];
+    match says {
+        Says::Refused(refusal) => Difference::between(sides, [&call.refused(*refusal), answer]),
+        Says::Answered(said) => Difference::between(sides, [said, answer]),
+        Says::Accepted if answer.refusal().number == 0 => None,
+        Says::Accepted => Some(Difference([(sides[0], "no refusal".to_owned()), (sides[1], show(&answer.words()))])),
+    }
+}
+
+/// What is done to a sheet: to half of them nothing.
+fn any_harm(random: &mut Random) -> Harm {
+    match random.below(10) {
+        0..=4 => Harm::None,
+        5..=7 => Harm::Rows,
+        8 => Harm::Bytes,
+        _ => Harm::Both,
+    }
 }
 
 /// Calls on a sheet: starts and limits of all kinds, buffers that are just long enough, one short, or anything.
@@ -165,37 +167,44 @@ fn calls(draft: &Draft, subject: &Subject, random: &mut Random) -> Vec<Call> {
 
 /// Writes the fixed list with its answers.
 fn store(folder: PathBuf, file: &str) -> Result<bool, Box<dyn Error>> {
-    let mut judge = Judge::new(folder);
-    let mut vectors = Vectors::new();
-    judge_fixed(&mut judge, |sheet, call, answer| vectors.add(sheet, call, answer))?;
-    let unreached = judge.unreached();
-    if judge.differences > 0 || !unreached.is_empty() {
+    let mut record = Record::new(folder)?;
+    let mut vectors = Vectors::default();
+    put_fixed(&mut record, |sheet, call, expected| vectors.add(sheet, call, expected))?;
+    let unreached = record.tally.unreached();
+    if record.differences > 0 || !unreached.is_empty() {
         println!("not written; refusal numbers not reached: {unreached:?}");
         return Ok(false);
     }
     let bytes = vectors.finish();
-    println!("{file}: {} bytes", bytes.len());
+    println!("{file}: {} bytes, {} cases; the Rust was asked in {}", bytes.len(), vectors.cases, vectors.asked);
     fs::write(file, bytes)?;
     Ok(true)
 }
 
-/// Shows what every call on a kept sheet answers.
-fn show_sheet(folder: PathBuf, file: &str, start: u32, limit: u64) -> Result<bool, Box<dyn Error>> {
+/// Shows what every call on a kept sheet answers; nothing is kept. The room of a listing, where none is given, is what
+/// it needs.
+fn show_sheet(file: &str, start: u32, limit: u64, room: Option<usize>) -> Result<bool, Box<dyn Error>> {
     let subject = Subject::new(fs::read(file)?);
-    let mut judge = Judge::new(folder);
-    let words = subject.game.as_ref().ok().and_then(|game| game.path_words(start, limit));
-    let room = words.unwrap_or(0).min(MOST_ROOM) as usize;
+    let needed = || {
+        let words = subject.game.as_ref().ok().and_then(|game| game.path_words(start, limit));
+        words.unwrap_or(0).min(MOST_ROOM) as usize
+    };
     let calls = [
         Call::Solve { start, limit },
         Call::SolvePlain { start, limit },
-        Call::Paths { start, limit, room },
-        Call::Sets { room: MOST_ROOM as usize },
+        Call::Paths { start, limit, room: room.unwrap_or_else(needed) },
+        Call::Sets { room: room.unwrap_or(MOST_ROOM as usize) },
         Call::Topology,
     ];
+    let mut agreed = true;
     for call in calls {
-        if let Some(answer) = judge.judge(&subject, &call, file)? {
-            println!("{call:?}\n  {}", show(&answer.words()));
+        match verdict(&subject, &call) {
+            Ok(expected) => println!("{call:?}\n  {}", show(&expected.answer.words())),
+            Err(difference) => {
+                println!("{call:?}, a difference\n{difference}");
+                agreed = false;
+            }
         }
     }
-    Ok(judge.differences == 0)
+    Ok(agreed)
 }

@@ -75,23 +75,9 @@ impl Stores {
     ) -> Result<(), Refusal> {
         let field = |at| sheet.u32(section, row, at);
         match section {
-            NODES => {
-                let node = match field(4) {
-                    0 => ExtensiveNode::decision(player(field(8))).map_err(number)?,
-                    1 => ExtensiveNode::chance(),
-                    _ => ExtensiveNode::terminal(),
-                };
-                self.nodes.push(field(0), node);
-            }
+            NODES => self.nodes.push(field(0), node(field(4), field(8))?),
             CHILDREN => self.child_of.push(field(0), ChildOf(field(4))),
-            ACTIONS => {
-                let text = sheet.label(field(4));
-                let target = field(8);
-                let by_text = ActionEdge::new(text, target).map_err(number)?;
-                let by_number = ActionEdge::new(field(4).to_string(), target).map_err(number)?;
-                self.actions_by_text.push(field(0), by_text);
-                self.actions_by_number.push(field(0), by_number);
-            }
+            ACTIONS => self.construct_action(field(0), field(4), sheet.label(field(4)), field(8))?,
             CHANCES => {
                 let probability = f64::from_bits(sheet.u64(CHANCES, row, 12));
                 let outcome = ChanceOutcome::new(sheet.label(field(4)), probability, field(8)).map_err(number)?;
@@ -115,6 +101,15 @@ impl Stores {
         Ok(())
     }
 
+    /// Adds an action row, by the label's text and by its number.
+    fn construct_action(&mut self, edge: u32, label: u32, text: &str, target: u32) -> Result<(), Refusal> {
+        let by_text = ActionEdge::new(text, target).map_err(number)?;
+        let by_number = ActionEdge::new(label.to_string(), target).map_err(number)?;
+        self.actions_by_text.push(edge, by_text);
+        self.actions_by_number.push(edge, by_number);
+        Ok(())
+    }
+
     fn traversal<'a>(&'a self, actions: &'a ComponentStore<ActionEdge>) -> ExtensiveTraversalStores<'a> {
         ExtensiveTraversalStores { child_of: &self.child_of, actions, transitions: &self.transitions }
     }
@@ -131,67 +126,72 @@ impl Stores {
 
     fn ask(&self, call: &Call) -> Result<Answer, ExtensiveFormError> {
         match *call {
-            Call::Solve { start, .. } => {
-                let stores = ChanceTraversalStores {
-                    child_of: &self.child_of,
-                    actions: &self.actions_by_number,
-                    chance_outcomes: &self.chance_outcomes,
-                    transitions: &self.transitions,
-                };
-                let path = ChanceWeightedBackwardInductionSolver::solve(start, &self.nodes, &self.terminals, stores)?;
-                let (labels, payoffs) = (label_numbers(&path.actions), values(&path.expected_payoffs));
-                Ok(Answer::solution(path.terminal, &labels, &payoffs))
-            }
-            Call::SolvePlain { start, .. } => {
-                let stores = self.traversal(&self.actions_by_number);
-                let path = BackwardInductionSolver::solve(start, &self.nodes, &self.terminals, stores)?;
-                let (labels, payoffs) = (label_numbers(&path.actions), values(&path.payoffs));
-                Ok(Answer::solution(Some(path.terminal), &labels, &payoffs))
-            }
-            Call::Paths { start, room, .. } => {
-                let stores = self.traversal(&self.actions_by_number);
-                let paths = extensive_form_paths(start, &self.nodes, &self.terminals, stores)?;
-                let mut words = Vec::new();
-                for path in paths {
-                    let counts = [path.payoffs.len() as u64, path.actions.len() as u64];
-                    words.push(u64::from(path.terminal));
-                    words.extend(counts);
-                    words.extend(label_numbers(&path.actions).into_iter().map(u64::from));
-                    words.extend(values(&path.payoffs).iter().map(|payoff| payoff.to_bits()));
-                }
-                Ok(Answer::written(&words, room))
-            }
-            Call::Sets { room } => {
-                let stores = self.traversal(&self.actions_by_text);
-                let sets = information_set_fixtures(&self.nodes, &self.information_sets, stores)?;
-                let mut words = Vec::new();
-                for set in sets {
-                    // the texts were compared; the first member's edges, asked for again, give the numbers
-                    let stores = self.traversal(&self.actions_by_number);
-                    let edges = outgoing_action_edges(set.nodes[0], stores)?;
-                    let labels: Vec<String> = edges.into_iter().map(|edge| edge.label).collect();
-                    assert_eq!(labels.len(), set.actions.len(), "one label for each text");
-                    let counts = [set.nodes.len() as u64, labels.len() as u64];
-                    words.extend([set.id, set.player as u64]);
-                    words.extend(counts);
-                    words.extend(set.nodes.iter().map(|&node| u64::from(node)));
-                    words.extend(label_numbers(&labels).into_iter().map(u64::from));
-                }
-                Ok(Answer::written(&words, room))
-            }
-            Call::Topology => {
-                validate_extensive_form_topology(ExtensiveFormTopology {
-                    root: self.root,
-                    nodes: &self.nodes,
-                    child_of: &self.child_of,
-                    actions: &self.actions_by_number,
-                    chance_outcomes: &self.chance_outcomes,
-                    terminals: &self.terminals,
-                })?;
-                Ok(Answer::Topology(Refusal::default()))
-            }
+            Call::Solve { start, .. } => self.solve(start),
+            Call::SolvePlain { start, .. } => self.solve_plain(start),
+            Call::Paths { start, room, .. } => Ok(Answer::written(&self.path_words(start)?, room)),
+            Call::Sets { room } => Ok(Answer::written(&self.set_words()?, room)),
+            Call::Topology => self.check_topology(),
             Call::Kuhn { .. } => unreachable!("Kuhn has no sheet"),
         }
+    }
+
+    fn solve(&self, start: u32) -> Result<Answer, ExtensiveFormError> {
+        let stores = ChanceTraversalStores {
+            child_of: &self.child_of,
+            actions: &self.actions_by_number,
+            chance_outcomes: &self.chance_outcomes,
+            transitions: &self.transitions,
+        };
+        let path = ChanceWeightedBackwardInductionSolver::solve(start, &self.nodes, &self.terminals, stores)?;
+        let (labels, payoffs) = (label_numbers(&path.actions), values(&path.expected_payoffs));
+        Ok(Answer::solution(path.terminal, &labels, &payoffs))
+    }
+
+    fn solve_plain(&self, start: u32) -> Result<Answer, ExtensiveFormError> {
+        let stores = self.traversal(&self.actions_by_number);
+        let path = BackwardInductionSolver::solve(start, &self.nodes, &self.terminals, stores)?;
+        let (labels, payoffs) = (label_numbers(&path.actions), values(&path.payoffs));
+        Ok(Answer::solution(Some(path.terminal), &labels, &payoffs))
+    }
+
+    /// The listing of the paths.
+    fn path_words(&self, start: u32) -> Result<Vec<u64>, ExtensiveFormError> {
+        let stores = self.traversal(&self.actions_by_number);
+        let mut words = Vec::new();
+        for path in extensive_form_paths(start, &self.nodes, &self.terminals, stores)? {
+            words.extend([u64::from(path.terminal), path.payoffs.len() as u64, path.actions.len() as u64]);
+            words.extend(label_numbers(&path.actions).into_iter().map(u64::from));
+            words.extend(values(&path.payoffs).iter().map(|payoff| payoff.to_bits()));
+        }
+        Ok(words)
+    }
+
+    /// The listing of the sets.
+    fn set_words(&self) -> Result<Vec<u64>, ExtensiveFormError> {
+        let stores = self.traversal(&self.actions_by_text);
+        let mut words = Vec::new();
+        for set in information_set_fixtures(&self.nodes, &self.information_sets, stores)? {
+            // the texts were compared; the first member's edges, asked for again, give the numbers
+            let edges = outgoing_action_edges(set.nodes[0], self.traversal(&self.actions_by_number))?;
+            let labels: Vec<String> = edges.into_iter().map(|edge| edge.label).collect();
+            assert_eq!(labels.len(), set.actions.len(), "one label for each text");
+            words.extend([set.id, set.player as u64, set.nodes.len() as u64, labels.len() as u64]);
+            words.extend(set.nodes.iter().map(|&node| u64::from(node)));
+            words.extend(label_numbers(&labels).into_iter().map(u64::from));
+        }
+        Ok(words)
+    }
+
+    fn check_topology(&self) -> Result<Answer, ExtensiveFormError> {
+        validate_extensive_form_topology(ExtensiveFormTopology {
+            root: self.root,
+            nodes: &self.nodes,
+            child_of: &self.child_of,
+            actions: &self.actions_by_number,
+            chance_outcomes: &self.chance_outcomes,
+            terminals: &self.terminals,
+        })?;
+        Ok(Answer::Topology(Refusal::default()))
     }
 }
 
@@ -204,6 +204,15 @@ pub fn kuhn(variant: Variant, iterations: u64) -> Answer {
     };
     let (value, bet_share) = CfrSolver::new(variant, iterations as usize).solve_kuhn_poker();
     Answer::Kuhn(Kuhn { refusal: Refusal::default(), value, bet_share })
+}
+
+/// A node row's kind and player as the Rust's node.
+fn node(kind: u32, mover: u32) -> Result<ExtensiveNode, Refusal> {
+    match kind {
+        0 => ExtensiveNode::decision(player(mover)).map_err(number),
+        1 => Ok(ExtensiveNode::chance()),
+        _ => Ok(ExtensiveNode::terminal()),
+    }
 }
 
 /// A sheet's player as the Rust's: the greatest u32 stands for `usize::MAX`.

@@ -80,6 +80,34 @@ pub fn depth(limit: u64) -> Result<u64, Refusal> {
     }
 }
 
+/// A row's player, or 6.
+fn checked_player(player: u32) -> Result<u32, Refusal> {
+    match player {
+        u32::MAX => Err(refusal(6, [player.into()])),
+        _ => Ok(player),
+    }
+}
+
+/// The probability with these bits, or 8; a NaN is not above 0.
+fn checked_probability(bits: u64) -> Result<f64, Refusal> {
+    let probability = f64::from_bits(bits);
+    if probability > 0.0 && probability <= 1.0 {
+        Ok(probability)
+    } else {
+        Err(refusal(8, [bits]))
+    }
+}
+
+/// The payoff with these bits, or 10.
+fn checked_payoff(bits: u64) -> Result<f64, Refusal> {
+    let payoff = f64::from_bits(bits);
+    if payoff.is_finite() {
+        Ok(payoff)
+    } else {
+        Err(refusal(10, []))
+    }
+}
+
 impl Game {
     /// The game of a sheet, or its first fault.
     pub fn open(bytes: &[u8]) -> Result<Game, Refusal> {
@@ -100,10 +128,6 @@ impl Game {
     /// Takes a row in that has no fault of 5, or refuses it by 6 to 10.
     fn read_row(&mut self, sheet: &Sheet, section: usize, row: usize, payoffs: &mut Vec<f64>) -> Result<(), Refusal> {
         let field = |at| sheet.u32(section, row, at);
-        let checked_player = |player: u32| match player {
-            u32::MAX => Err(refusal(6, [player.into()])),
-            _ => Ok(player),
-        };
         match section {
             NODES => {
                 let kind = match field(4) {
@@ -114,31 +138,15 @@ impl Game {
                 self.nodes.push(field(0), kind);
             }
             CHILDREN => self.children.entry(field(4)).or_default().push(field(0)),
-            ACTIONS | CHANCES => {
-                let (entity, label, target) = (field(0), field(4), field(8));
-                if sheet.label(label).is_empty() {
-                    return Err(refusal(7, []));
-                }
-                if section == ACTIONS {
-                    self.actions.push(entity, Edge { label, target, probability: 0.0 });
-                } else {
-                    let probability = f64::from_bits(sheet.u64(CHANCES, row, 12));
-                    // a NaN is not above 0
-                    if !(probability > 0.0 && probability <= 1.0) {
-                        return Err(refusal(8, [sheet.u64(CHANCES, row, 12)]));
-                    }
-                    self.chances.push(entity, Edge { label, target, probability });
-                }
+            ACTIONS | CHANCES if sheet.label(field(4)).is_empty() => return Err(refusal(7, [])),
+            ACTIONS => self.actions.push(field(0), Edge { label: field(4), target: field(8), probability: 0.0 }),
+            CHANCES => {
+                let probability = checked_probability(sheet.u64(CHANCES, row, 12))?;
+                self.chances.push(field(0), Edge { label: field(4), target: field(8), probability });
             }
             TRANSITIONS => self.transitions.push(field(0), field(4)),
             TERMINALS if field(4) == 0 => return Err(refusal(9, [])),
-            PAYOFFS => {
-                let payoff = f64::from_bits(sheet.u64(PAYOFFS, row, 0));
-                if !payoff.is_finite() {
-                    return Err(refusal(10, []));
-                }
-                payoffs.push(payoff);
-            }
+            PAYOFFS => payoffs.push(checked_payoff(sheet.u64(PAYOFFS, row, 0))?),
             SETS => {
                 let set = SetRow { player: checked_player(field(4))?, id: sheet.u64(SETS, row, 8) };
                 self.sets.push(field(0), set);

@@ -1,48 +1,57 @@
 //! Stores the fixed list with its answers, for a program that has no Rust at hand. README.md has the format.
 
 use crate::answer::{Answer, Call, Variant};
+use crate::judge::Expected;
 
 const END: u64 = 0;
 const SHEET: u64 = 1;
 const CASE: u64 = 2;
 const TEXT: u64 = 3;
 
-/// How the file was made.
-const MADE: &str = "made by tests/differential/run --vectors FILE: the fixed list of tests/differential/src/fixed, \
-                    with the answers of the unchanged Rust and, where it has none, of document 01\n";
+/// Words of an answer that the program vectors has room for.
+pub const MOST_WORDS: usize = 1_100;
 
-/// The file's bytes, in the making.
+/// The file's records but for the first and the last, in the making.
+#[derive(Default)]
 pub struct Vectors {
     bytes: Vec<u8>,
     sheet: Option<Vec<u8>>,
-    cases: u64,
+    pub cases: u64,
+    /// Cases in which the Rust was asked.
+    pub asked: u64,
 }
 
 impl Vectors {
-    /// A file that says how it was made.
-    pub fn new() -> Vectors {
-        let mut vectors = Vectors { bytes: Vec::new(), sheet: None, cases: 0 };
-        vectors.record(TEXT, MADE.as_bytes());
-        vectors
-    }
-
     /// Adds a case; its sheet too, unless it is the one before's.
-    pub fn add(&mut self, sheet: &[u8], call: &Call, answer: &Answer) {
+    pub fn add(&mut self, sheet: &[u8], call: &Call, expected: &Expected) {
         if self.sheet.as_deref() != Some(sheet) {
             self.record(SHEET, sheet);
             self.sheet = Some(sheet.to_vec());
         }
         let [number, start, limit, room] = arguments(call);
-        let expected = without_sign(answer).words();
-        self.words(&[CASE, number, start, limit, room, expected.len() as u64]);
-        self.words(&expected);
+        let words = without_sign(&expected.answer).words();
+        assert!(words.len() <= MOST_WORDS, "an answer that can be replayed");
+        self.words(&[CASE, number, start, limit, room, words.len() as u64]);
+        self.words(&words);
         self.cases += 1;
+        self.asked += u64::from(expected.asked);
     }
 
-    /// The finished file.
-    pub fn finish(mut self) -> Vec<u8> {
-        self.words(&[END, self.cases]);
-        self.bytes
+    /// The file, which starts by saying how it was made.
+    pub fn finish(&self) -> Vec<u8> {
+        let mut file = Vectors::default();
+        file.record(TEXT, self.made().as_bytes());
+        file.bytes.extend(&self.bytes);
+        file.words(&[END, self.cases]);
+        file.bytes
+    }
+
+    fn made(&self) -> String {
+        let (cases, asked) = (self.cases, self.asked);
+        format!(
+            "made by tests/differential/run --vectors FILE: the fixed list of tests/differential/src/fixed, {cases} cases; \
+             the unchanged Rust was asked in {asked}, the other answers are those of document 01\n"
+        )
     }
 
     /// A record of bytes.

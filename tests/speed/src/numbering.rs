@@ -66,11 +66,11 @@ fn entities(draft: &Draft) -> Vec<u32> {
     entities
 }
 
-/// The library's slots of an entity: the lookup table's, which a shorter table takes modulo its own length, a power of
-/// two, and the repeat check's.
+/// The library's slots of an entity: the lookup table's, of which the longest table has two and a shorter one takes it
+/// modulo its own length, a power of two; and the repeat check's.
 fn slots(entity: u32) -> [u64; 2] {
     let entity = u64::from(entity);
-    let hint = entity + entity / 2_048 + entity / 65_536 + entity / 4_194_304;
+    let hint = entity + entity / 2_048 + entity / 65_536;
     let repeat = entity + entity / 1_024 + entity / 1_048_576;
     [hint % 2_048, repeat % 1_024]
 }
@@ -78,7 +78,7 @@ fn slots(entity: u32) -> [u64; 2] {
 /// The most entities that share both slots, the first of which is 0, rising: about two thousand.
 static CROWD: LazyLock<Vec<u32>> = LazyLock::new(|| {
     // of the 2,048 entities with the same quotient by 2,048, one has the first slot 0
-    let first_is_0 = |high: u32| 2_048 * high + (2_048 - (high + high / 32 + high / 2_048) % 2_048) % 2_048;
+    let first_is_0 = |high: u32| 2_048 * high + (2_048 - (high + high / 32) % 2_048) % 2_048;
     let mut crowds = vec![Vec::new(); 1_024];
     for entity in (0..1 << 21).map(first_is_0) {
         crowds[slots(entity)[1] as usize].push(entity);

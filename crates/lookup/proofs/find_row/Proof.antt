@@ -13,7 +13,7 @@ use Rattle.layout.proofs.LayoutLaws.{size-least}
 use Rattle.opening.proofs.RowWidths.{entity-width, width-most}
 use Rattle.opening.proofs.AcceptedRows.{entity-section, layout-ok, not-repeated}
 use Rattle.lookup.specs.Hints.{hintOf}
-use Rattle.lookup.proofs.HintLaws.{slot-within, looked-entity, no-hint-no-row}
+use Rattle.lookup.proofs.HintLaws.{slot-within, looked-below, looked-entity, no-hint-no-row}
 use Rattle.lookup.proofs.find_row.Statement.{statement}
 use Rattle.lookup.proofs.find_row.Tie as tie
 
@@ -41,7 +41,7 @@ module _ (c : tie.After-width-of) where
       rw (c .width-of .ensures, c .before .section-of .ensures) (not-repeated _ (p .0 .opens) _ (looked-entity _ (p .1)))
 
 slot-requires : tie.Need-slot-requires
-slot-requires c κs = c .before .before .pre .0 .room
+slot-requires c κs = (c .before .before .pre .0 .room, looked-below _ (c .before .before .pre .1))
 
 mul-hint : tie.Need-mul-hint
 mul-hint c = omega (arith, within c)

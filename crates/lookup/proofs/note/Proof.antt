@@ -25,7 +25,7 @@ same-length c = search needs
 returns : tie.Need-returns
 returns c =
     let a = c .before .before .args in
-    let given = c .before .before .pre .1 in (
+    let given = c .before .before .pre .2 in (
       now-noted (a .hints .now) (c .slot .result) (a .hint) (within c) given (a .k) (a .entity) (c .slot .ensures),
       still-noted (a .hints .now) (c .slot .result) (a .hint) (within c) given,
     )

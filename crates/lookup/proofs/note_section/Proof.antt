@@ -10,7 +10,7 @@ use Rattle.layout.proofs.Sections.{width-pos}
 use Rattle.opening.proofs.RowWidths.{entity-width}
 use Rattle.opening.proofs.AcceptedRows.{entity-section}
 use Rattle.lookup.specs.Hints.{hintOf, NotedTo, StillNoted}
-use Rattle.lookup.proofs.HintLaws.{looked-entity}
+use Rattle.lookup.proofs.HintLaws.{looked-below, looked-entity}
 use Rattle.lookup.proofs.note_section.Statement.{statement}
 use Rattle.lookup.proofs.note_section.Tie as tie
 
@@ -56,7 +56,7 @@ add-note c = omega (arith, fits c)
 note-requires : tie.Need-note-requires Inv-loop μ-loop
 note-requires c κs =
     let p = c .before .before .before .before .before .before .before .before .before .pre in
-    (omega (arith, p .2, c .before .before .before .loop .inv .0), omega arith)
+    (omega (arith, p .2, c .before .before .before .loop .inv .0), looked-below _ (p .1), omega arith)
 
 add-i : tie.Need-add-i Inv-loop μ-loop
 add-i c = omega arith

@@ -1,7 +1,7 @@
 -- `slot` answers the place of a hint.
 use mathlib.Core.Path.{refl}
 use borrow.Author.Needs.{needs}
-use Rattle.lookup.specs.Hints.{folded, slotOf}
+use Rattle.lookup.specs.Hints.{placeOf, folded, slotOf}
 use Rattle.lookup.proofs.slot.Statement.{statement}
 use Rattle.lookup.proofs.slot.Tie as tie
 
@@ -11,34 +11,18 @@ add-result c = search needs
 add-result-2 : tie.Need-add-result-2
 add-result-2 c = search needs
 
-add-result-3 : tie.Need-add-result-3
-add-result-3 c = search needs
-
 mul-result : tie.Need-mul-result
 mul-result c = search needs
 
-place-requires : tie.Need-place-requires
-place-requires c κs = search needs
-
-add-result-4 : tie.Need-add-result-4
-add-result-4 c = search needs
+add-result-3 : tie.Need-add-result-3
+add-result-3 c = search needs
 
 sub-result : tie.Need-sub-result
 sub-result c = search needs
 
 returns : tie.Need-returns
-unfolding slotOf folded
-returns c = rw (c .place .ensures .0) refl
+unfolding slotOf folded placeOf
+returns c = refl
 
 pub slot-spec : {M : Type 1} → statement M
-slot-spec =
-    tie.close
-    (tie.spec
-    add-result
-    add-result-2
-    add-result-3
-    mul-result
-    place-requires
-    add-result-4
-    sub-result
-    returns)
+slot-spec = tie.close (tie.spec add-result add-result-2 mul-result add-result-3 sub-result returns)

@@ -1,27 +1,15 @@
--- `replay::bits` is safe: what is in range is finite.
-use Prim.Native.Nat.{ℕ}
-use mathlib.Core.Path.{_≡_, refl, sym, ap, _∙_}
-use mathlib.Core.Bool.{Bool, true, false, cond}
-use mathlib.Core.Option.{some, none}
-use native.Mathlib.Omega.{arith}
-use lib.Dec.{T}
-use Rattle.number.specs.Number.{Number, isFinite}
-use Rattle.number.specs.Answers.{finiteOnly, weighted}
+-- `replay::bits` is the word of a number.
+use mathlib.Core.Path.{sym, ap, _∙_}
 use borrow.Author.Needs.{needs}
+use denote.Floats.{passes}
+use Rattle.number.specs.Meaning.{meaning}
+use Rattle.number.specs.Answers.{weighted}
+use Rattle.replay.proofs.NumberWords.{kept, word-zero, word-out, word-kept}
 use Rattle.replay.proofs.bits.Statement.{statement}
 use Rattle.replay.proofs.bits.Tie as tie
 
-module _ (x y : Number) where
-  kept : some x ≡ finiteOnly y → T (isFinite x)
-  unfolding finiteOnly
-  kept e = go (isFinite y) refl e
-    where
-      go : (b : Bool) → isFinite y ≡ b → some x ≡ cond b (some y) none → T (isFinite x)
-      go true f e = let g : x ≡ y = cc in rw (g, f) tt
-      go false f e = absurd (let z : _≡_ {A = ℕ} 0 1 = cc in omega arith)
-
 returns : tie.Need-returns
-returns c = search needs
+returns c = sym (word-zero (c .before .args .x) (passes _ (c .before .good .0 .1)) (c .if1 .taken))
 
 in-range-requires : tie.Need-in-range-requires
 in-range-requires c κs = search needs
@@ -30,16 +18,16 @@ enum-known-y : tie.Need-enum-known-y
 enum-known-y c = search needs
 
 to-bits-requires : tie.Need-to-bits-requires
-to-bits-requires c κs = kept _ _ (sym (ap weighted (c .before .y .given .1)) ∙ c .before .before .before .in-range .ensures)
+to-bits-requires c κs = kept _ _ (sym (ap weighted (c .before .y .given .1)) ∙ c .before .before .before .in-range .ensures) .1
 
 enum-told : tie.Need-enum-told
 enum-told c = search needs
 
 returns-2 : tie.Need-returns-2
-returns-2 c = search needs
+returns-2 c = word-kept (c .before .before .before .before .before .before .args .x) _ (passes _ (c .before .before .before .before .before .before .good .0 .1)) (c .before .before .before .before .before .if1 .left) (sym (ap weighted (c .before .before .y .given .1)) ∙ c .before .before .before .before .in-range .ensures) (c .to-bits .ensures)
 
 returns-3 : tie.Need-returns-3
-returns-3 c = search needs
+returns-3 c = sym (word-out (meaning (c .before .before .before .before .args .x)) (sym (ap weighted (c .enum-told .given .1)) ∙ c .before .before .in-range .ensures))
 
 pub bits-spec : {M : Type 1} → statement M
 bits-spec =

@@ -1,11 +1,11 @@
--- `replay::untouched` answers true only where every element from the place on is as it was. The loop's invariant: those up to `i` are.
+-- `replay::untouched` tells whether every element from the place on is as it was. The loop's invariant: those up to `i` are.
 use Prim.Native.Nat.{ℕ, _≤_, _<_, _-_}
-use mathlib.Core.Path.{_≡_, _∙_}
+use mathlib.Core.Path.{_≡_, refl, sym, _∙_}
 use mathlib.Core.Bool.{false≢true}
 use native.Mathlib.Omega.{arith}
-use lib.ListN.{getD}
 use borrow.Author.Count.{below-more}
 use borrow.Author.Needs.{needs}
+use lib.ListN.{getD}
 use Rattle.replay.specs.Lent.{lent}
 use Rattle.replay.proofs.untouched.Statement.{statement}
 use Rattle.replay.proofs.untouched.Tie as tie
@@ -30,7 +30,9 @@ pattern-requires : tie.Need-pattern-requires Inv-loop μ-loop
 pattern-requires c κs = search needs
 
 returns : tie.Need-returns Inv-loop μ-loop
-returns c = λ e. absurd (false≢true e)
+returns c =
+    let l = c .before .before .before .before .loop in
+    (λ e. absurd (false≢true e), λ f. absurd (c .if1 .taken (f (l .i) (omega arith) (l .inv .0) ∙ sym (c .before .pattern .ensures))))
 
 add-i : tie.Need-add-i Inv-loop μ-loop
 add-i c = search needs
@@ -43,7 +45,7 @@ loop-again c =
     (search needs, below-more _ _ (c .before .before .before .before .loop .inv .1) (λ f. c .if1 .left ∙ c .before .pattern .ensures))
 
 returns-2 : tie.Need-returns-2 Inv-loop μ-loop
-returns-2 c = λ e k l f. c .before .loop .inv .1 k (omega arith) f
+returns-2 c = (λ e k l f. c .before .loop .inv .1 k (omega arith) f, λ f. refl)
 
 pub untouched-spec : {M : Type 1} → statement M
 untouched-spec =

@@ -1,7 +1,7 @@
 //! The calls beside the solve: paths, sets, topology, Kuhn.
 
-use super::{paths_in, worked, List, Says, SOLVE};
-use crate::answer::{Answer, Call, Refusal, VARIANTS};
+use super::{paths_in, worked, List, SOLVE};
+use crate::answer::{Call, VARIANTS};
 use crate::draft::{field, row, set_field, Draft, Row};
 use crate::sheet::*;
 
@@ -139,58 +139,63 @@ fn plain_tree() -> Draft {
     draft
 }
 
-/// The topology check's refusals in its order.
-pub fn topology(list: &mut List) {
-    let with = |change: &dyn Fn(&mut Draft)| {
-        let mut draft = plain_tree();
-        change(&mut draft);
-        draft.encode()
-    };
-    let drop_row = |section: usize, entity: u32| {
-        with(&|draft: &mut Draft| draft.sections[section].retain(|row| field(row, 0) != entity))
-    };
-    let passed = Says::Answered(Answer::Topology(Refusal::default()));
-    list.add("topology", &plain_tree().encode(), Call::Topology, passed);
-    list.solved("its solve", &plain_tree().encode(), SOLVE, None, &[0], &[2.0]);
-    let mut says = |name, sheet: Vec<u8>, number, entity| {
-        list.refused(name, &sheet, Call::Topology, number, [entity]);
-    };
-    says("no root", with(&|draft| draft.root = 7), 11, 7);
-    says("an action's target", with(&|draft| set_field(&mut draft.sections[ACTIONS][1], 8, 8)), 11, 8);
-    says("an outcome's target", with(&|draft| set_field(&mut draft.sections[CHANCES][1], 8, 9)), 11, 9);
-    let neither = with(&|draft| {
+/// The tree with something changed about it.
+fn tree_but(change: impl FnOnce(&mut Draft)) -> Vec<u8> {
+    let mut draft = plain_tree();
+    change(&mut draft);
+    draft.encode()
+}
+
+/// What the topology check passes, and what it refuses before it walks.
+pub fn topology_before_walk(list: &mut List) {
+    let sheet = plain_tree().encode();
+    list.passed("topology", &sheet);
+    list.solved("its solve", &sheet, SOLVE, None, &[0], &[2.0]);
+    let mut missing = |name, sheet: Vec<u8>, entity| list.refused(name, &sheet, Call::Topology, 11, [entity]);
+    missing("no root", tree_but(|draft| draft.root = 7), 7);
+    missing("an action's target", tree_but(|draft| set_field(&mut draft.sections[ACTIONS][1], 8, 8)), 8);
+    missing("an outcome's target", tree_but(|draft| set_field(&mut draft.sections[CHANCES][1], 8, 9)), 9);
+    let neither = tree_but(|draft| {
         draft.root = 7;
         set_field(&mut draft.sections[ACTIONS][1], 8, 8);
     });
-    says("the root before actions", neither, 11, 7);
-    let both = with(&|draft| {
+    missing("the root before actions", neither, 7);
+    let both = tree_but(|draft| {
         set_field(&mut draft.sections[CHANCES][0], 8, 9);
         set_field(&mut draft.sections[ACTIONS][1], 8, 8);
     });
-    says("actions before outcomes", both, 11, 8);
-    says("a child that is no node", with(&|draft| draft.sections[CHILDREN].push(row([6, 3]))), 11, 6);
-    says("the root below itself", with(&|draft| draft.sections[CHILDREN].push(row([1, 1]))), 12, 1);
-    says("the root below a terminal", with(&|draft| draft.sections[CHILDREN].push(row([1, 5]))), 12, 1);
-    let unpaid = with(&|draft| {
+    missing("actions before outcomes", both, 8);
+}
+
+/// What the topology check finds on its walk, and what it does not look at.
+pub fn topology_walk(list: &mut List) {
+    let mut says = |name, sheet: Vec<u8>, number, entity| {
+        list.refused(name, &sheet, Call::Topology, number, [entity]);
+    };
+    says("a child that is no node", tree_but(|draft| draft.sections[CHILDREN].push(row([6, 3]))), 11, 6);
+    says("the root below itself", tree_but(|draft| draft.sections[CHILDREN].push(row([1, 1]))), 12, 1);
+    says("the root below a terminal", tree_but(|draft| draft.sections[CHILDREN].push(row([1, 5]))), 12, 1);
+    let unpaid = tree_but(|draft| {
         draft.sections[TERMINALS].remove(1);
         draft.sections[PAYOFFS].remove(1);
     });
     says("a terminal without payoffs", unpaid, 13, 4);
-    says("no child has a chance row", with(&|draft| draft.sections[CHANCES].clear()), 17, 3);
-    let actions = with(&|draft| {
+    says("no child has a chance row", tree_but(|draft| draft.sections[CHANCES].clear()), 17, 3);
+    let actions = tree_but(|draft| {
         draft.sections[CHANCES].clear();
         draft.action_row(4, 0, 4);
         draft.action_row(5, 0, 5);
     });
     says("action rows are no outcomes", actions, 17, 3);
-    let before = with(&|draft| {
+    let before = tree_but(|draft| {
         draft.sections[CHANCES].clear();
         draft.sections[NODES].retain(|row| field(row, 0) != 5);
     });
     says("17 before the children", before, 17, 3);
-    let passed = || Says::Answered(Answer::Topology(Refusal::default()));
-    list.add("one outcome is enough", &drop_row(CHANCES, 5), Call::Topology, passed());
-    list.add("transitions do not matter", &drop_row(TRANSITIONS, 4), Call::Topology, passed());
+    let without =
+        |section: usize, entity: u32| tree_but(|draft| draft.sections[section].retain(|row| field(row, 0) != entity));
+    list.passed("one outcome is enough", &without(CHANCES, 5));
+    list.passed("transitions do not matter", &without(TRANSITIONS, 4));
 }
 
 /// Iterations up to the most and past it.

@@ -3,6 +3,7 @@
 
 mod beside;
 mod largest;
+mod limits;
 mod opening;
 mod solving;
 
@@ -30,18 +31,32 @@ pub fn list() -> Vec<Case> {
     solving::worked_cases(&mut list);
     opening::sizes(&mut list);
     opening::layouts(&mut list);
-    opening::rows(&mut list);
+    opening::claims(&mut list);
+    opening::repeated_entities(&mut list);
+    opening::bad_rows(&mut list);
+    opening::odd_rows(&mut list);
     opening::constructors(&mut list);
+    opening::every_call(&mut list);
     opening::check_order(&mut list);
     solving::edges(&mut list);
     solving::solves(&mut list);
     solving::rounding(&mut list);
     solving::depths(&mut list);
+    solving::shared_nodes(&mut list);
+    solving::loops(&mut list);
     beside::paths(&mut list);
     beside::sets(&mut list);
-    beside::topology(&mut list);
+    beside::topology_before_walk(&mut list);
+    beside::topology_walk(&mut list);
     beside::kuhn(&mut list);
-    largest::largest(&mut list);
+    largest::longest_sheet(&mut list);
+    largest::full_edges(&mut list);
+    largest::full_line(&mut list);
+    largest::full_paths(&mut list);
+    largest::full_sets(&mut list);
+    limits::one_byte_short(&mut list);
+    limits::one_row_short(&mut list);
+    limits::one_row_over(&mut list);
     list.0
 }
 
@@ -70,6 +85,11 @@ impl List {
         payoffs: &[f64],
     ) {
         self.add(name, sheet, call, Says::Answered(Answer::solution(terminal, labels, payoffs)));
+    }
+
+    /// The topology check passes the sheet.
+    fn passed(&mut self, name: &'static str, sheet: &[u8]) {
+        self.add(name, sheet, Call::Topology, Says::Answered(Answer::Topology(Refusal::default())));
     }
 
     /// The words that a call with this much room writes.

@@ -1,7 +1,7 @@
 //! Sheets that do not open, refusals 1 to 10, and some that just do.
 
-use super::{but, solve, worked, List, EACH, SOLVE};
-use crate::answer::Call;
+use super::{but, solve, worked, List, Says, EACH, SOLVE};
+use crate::answer::{refusal, Call};
 use crate::draft::{field, row, set_field, Draft};
 use crate::sheet::*;
 
@@ -22,9 +22,9 @@ pub fn sizes(list: &mut List) {
     }
 }
 
-/// Refusals 2 to 4.
+/// Refusals 2 to 4 of a sheet that has rows in every section.
 pub fn layouts(list: &mut List) {
-    let sheet = worked().encode();
+    let sheet = but(|draft| draft.set(1, 0, 7));
     let patched = |at: usize, bytes: &[u8]| {
         let mut sheet = sheet.clone();
         sheet[at..at + bytes.len()].copy_from_slice(bytes);
@@ -40,24 +40,31 @@ pub fn layouts(list: &mut List) {
         list.refused("the zero", &patched(6, &zero.to_le_bytes()), SOLVE, 4, [10]);
     }
     let number_at = |at: usize| u32::from_le_bytes(sheet[at..at + 4].try_into().expect("four bytes"));
+    let by = |at: usize, by: u32| patched(at, &number_at(at).wrapping_add(by).to_le_bytes());
     for section in 0..10 {
         let (offset, length) = (12 + 8 * section, 16 + 8 * section);
-        let by = |at: usize, by: u32| patched(at, &number_at(at).wrapping_add(by).to_le_bytes());
         let fault = [section as u64];
         list.refused("offset one more", &by(offset, 1), SOLVE, 4, fault);
         list.refused("offset one less", &by(offset, u32::MAX), SOLVE, 4, fault);
         list.refused("length one more", &by(length, 1), SOLVE, 4, fault);
-        if section < TEXT && !worked().sections[section].is_empty() {
+        list.refused("length one less", &by(length, u32::MAX), SOLVE, 4, fault);
+        if section < TEXT {
             let width = WIDTHS[section] as u32;
             list.refused("length one row less", &by(length, width.wrapping_neg()), SOLVE, 4, [section as u64 + 1]);
         }
-        // the header alone, with offsets that agree: one row too many is seen before the missing bytes
-        list.refused("a row too many", &claiming(section, LIMITS[section] + 1), SOLVE, 4, fault);
-        list.refused("rows that are not there", &claiming(section, LIMITS[section]), SOLVE, 4, [9]);
     }
     list.refused("one byte short", &sheet[..sheet.len() - 1], SOLVE, 4, [9]);
     let longer: Vec<u8> = sheet.iter().copied().chain([b'x']).collect();
     list.refused("one byte more", &longer, SOLVE, 4, [9]);
+}
+
+/// The header alone, with offsets that agree: one row too many is seen before the missing bytes.
+pub fn claims(list: &mut List) {
+    for section in 0..10 {
+        let fault = [section as u64];
+        list.refused("a row too many", &claiming(section, LIMITS[section] + 1), SOLVE, 4, fault);
+        list.refused("rows that are not there", &claiming(section, LIMITS[section]), SOLVE, 4, [9]);
+    }
 }
 
 /// A header that claims so many rows of one section, and nothing after it.
@@ -69,26 +76,29 @@ fn claiming(section: usize, rows: usize) -> Vec<u8> {
     sheet
 }
 
-/// The faults of 5.
-pub fn rows(list: &mut List) {
-    let mut bad = |name, section: usize, row: usize, sheet: Vec<u8>| {
-        list.refused(name, &sheet, SOLVE, 5, [section as u64, row as u64]);
-    };
+/// 01's small sheet with one u32 changed.
+fn set(section: usize, row: usize, at: usize, value: u32) -> Vec<u8> {
+    but(|draft| set_field(&mut draft.sections[section][row], at, value))
+}
+
+/// An entity twice in a section.
+pub fn repeated_entities(list: &mut List) {
     for section in [NODES, CHILDREN, ACTIONS, CHANCES, TRANSITIONS, TERMINALS] {
-        let sheet = but(|draft| {
-            let first = field(&draft.sections[section][0], 0);
-            set_field(&mut draft.sections[section][1], 0, first);
-        });
-        bad("an entity twice", section, 1, sheet);
+        let first = field(&worked().sections[section][0], 0);
+        list.refused("an entity twice", &set(section, 1, 0, first), SOLVE, 5, [section as u64, 1]);
     }
     let sets = but(|draft| {
         draft.set(1, 0, 7);
         draft.set(2, 0, 7);
         draft.set(1, 0, 8);
     });
-    bad("an entity twice", SETS, 2, sets);
-    let set = |section: usize, row: usize, at: usize, value: u32| {
-        but(|draft| set_field(&mut draft.sections[section][row], at, value))
+    list.refused("an entity twice", &sets, SOLVE, 5, [SETS as u64, 2]);
+}
+
+/// The other faults of 5.
+pub fn bad_rows(list: &mut List) {
+    let mut bad = |name, section: usize, row: usize, sheet: Vec<u8>| {
+        list.refused(name, &sheet, SOLVE, 5, [section as u64, row as u64]);
     };
     bad("kind 3", NODES, 0, set(NODES, 0, 4, 3));
     bad("a chance node's player", NODES, 1, set(NODES, 1, 8, 1));
@@ -107,6 +117,10 @@ pub fn rows(list: &mut List) {
     {
         bad(name, TEXT, 14, but(|draft| draft.sections[TEXT][14] = vec![byte]));
     }
+}
+
+/// Rows that are just no fault of 5.
+pub fn odd_rows(list: &mut List) {
     let with_ends = but(|draft| {
         draft.sections[TEXT][0] = vec![0x20];
         draft.sections[TEXT][14] = vec![0x7E];
@@ -126,18 +140,12 @@ pub fn rows(list: &mut List) {
 
 /// Refusals 6 to 10.
 pub fn constructors(list: &mut List) {
-    let player = but(|draft| set_field(&mut draft.sections[NODES][0], 8, u32::MAX));
-    for call in EACH {
-        list.refused("player 4294967295", &player, call, 6, [4_294_967_295]);
-    }
-    let large = but(|draft| set_field(&mut draft.sections[NODES][0], 8, u32::MAX - 1));
-    list.refused("player 4294967294", &large, SOLVE, 18, [2, 4_294_967_294]);
-    let set = but(|draft| draft.set(1, u32::MAX, 7));
-    list.refused("a set's player 4294967295", &set, Call::Sets { room: 8 }, 6, [4_294_967_295]);
-    let action = but(|draft| set_field(&mut draft.sections[LABELS][1], 4, 0));
-    list.refused("an action's label is empty", &action, SOLVE, 7, []);
-    let chance = but(|draft| set_field(&mut draft.sections[LABELS][2], 4, 0));
-    list.refused("an outcome's label is empty", &chance, SOLVE, 7, []);
+    list.refused("player 4294967295", &set(NODES, 0, 8, u32::MAX), SOLVE, 6, [4_294_967_295]);
+    list.refused("player 4294967294", &set(NODES, 0, 8, u32::MAX - 1), SOLVE, 18, [2, 4_294_967_294]);
+    let member = but(|draft| draft.set(1, u32::MAX, 7));
+    list.refused("a set's player 4294967295", &member, Call::Sets { room: 8 }, 6, [4_294_967_295]);
+    list.refused("an action's label is empty", &set(LABELS, 1, 4, 0), SOLVE, 7, []);
+    list.refused("an outcome's label is empty", &set(LABELS, 2, 4, 0), SOLVE, 7, []);
     let nan = 0x7FF0_0000_0000_0001;
     let above_one = 0x3FF0_0000_0000_0001;
     for bits in [0, 1 << 63, 1 << 63 | 1, 0xBFF0 << 48, above_one, 0x7FF0 << 48, 0xFFF0 << 48, nan, u64::MAX] {
@@ -163,6 +171,28 @@ pub fn constructors(list: &mut List) {
 /// 01's small sheet with this probability for edge 13.
 fn with_probability(probability: f64) -> Vec<u8> {
     but(|draft| draft.sections[CHANCES][1][12..].copy_from_slice(&probability.to_le_bytes()))
+}
+
+/// Each of the refusals 1 to 10 from each call that takes a sheet.
+pub fn every_call(list: &mut List) {
+    let sheet = worked().encode();
+    let refused = [
+        (sheet[..HEADER - 1].to_vec(), refusal(1, [91])),
+        (patch(&sheet, 0, 0), refusal(2, [])),
+        (patch(&sheet, 4, 2), refusal(3, [2])),
+        (patch(&sheet, 6, 1), refusal(4, [10])),
+        (set(TERMINALS, 2, 4, 9), refusal(5, [5, 2])),
+        (set(NODES, 0, 8, u32::MAX), refusal(6, [4_294_967_295])),
+        (set(LABELS, 0, 4, 0), refusal(7, [])),
+        (with_probability(-0.25), refusal(8, [0xBFD0 << 48])),
+        (but(|draft| draft.set_payoffs(2, &[])), refusal(9, [])),
+        (but(|draft| draft.set_payoffs(0, &[f64::INFINITY, 2.0])), refusal(10, [])),
+    ];
+    for (sheet, refusal) in refused {
+        for call in EACH {
+            list.add("a sheet that does not open", &sheet, call, Says::Refused(refusal));
+        }
+    }
 }
 
 /// Of two faults the one that 01 looks for first.
