@@ -67,14 +67,14 @@ pub fn find_row(sheet: &[u8], hints: &[u16], k: usize, entity: u32) -> Found
     requires { ⌜ Noted (now sheet) (now hints) × (lookedUp k ≡ true) ⌝ }
     ensures { λ r. ⌜ foundAt r ≡ findRow (width (now (sheet .entry)) k) (section (now (sheet .entry)) k) (rowCount (now (sheet .entry)) k) entity ⌝ }
 {
-    let hint = hints[slot(hints.len(), k, entity)] as u32;
+    let hint = hints[slot(hints.len(), k, entity)] as usize;
     if hint == 0 {
         return Found::Nothing;
     }
     let section = section_of(sheet, k);
     let w = width_of(sheet, k);
-    if rows::names(section, w, hint - 1, entity) {
-        return Found::At(hint as usize - 1);
+    if rows::names(section, w, hint, entity) {
+        return Found::At(hint - 1);
     }
     rows::find_distinct(section, w, entity)
 }

@@ -1,11 +1,10 @@
 -- Rows of any width: a row lies within the bytes, what a search by entity has found so far, and entities that do not repeat.
-use Prim.Native.Nat.{ℕ, _+_, _*_, _/_, _≤_, _<_}
-use mathlib.Core.Path.{_≡_, refl, sym, _∙_}
+use Prim.Native.Nat.{ℕ, suc, _+_, _-_, _*_, _/_, _≤_, _<_}
+use mathlib.Core.Path.{_≡_, refl, sym, ap, _∙_}
 use mathlib.Core.List.{List}
 use mathlib.Core.Bool.{false, true≢false}
 use mathlib.Core.Option.{Option, none, some}
 use native.Mathlib.Nat.{le-div-iff-mul-le, mul-le-mul-left, mul-div-le, mul-suc, mul-comm, le-antisymm}
-use native.Mathlib.Numerals.{add-one}
 use native.Mathlib.Omega.{arith}
 use borrow.Author.Tests.{ne-eqb, eq-eqb, eqb-true, eqb-false}
 use lib.ListN.{length}
@@ -18,17 +17,20 @@ pub row-fits : (w : ℕ) (rows : List ℕ) (i : ℕ) → i < rowsIn w rows → w
 unfolding rowsIn
 row-fits w rows i h = omega (arith, mul-le-mul-left w h, mul-div-le (length rows) w, mul-suc w i)
 
--- and a row that ends within the bytes is one of them
-pub row-here : (w : ℕ) (rows : List ℕ) (i : ℕ) → 4 ≤ w → (i + 1) * w ≤ length rows → i < rowsIn w rows
+-- where the last of n rows starts and ends
+pub last-ends : (w n : ℕ) → 0 < n → n * w ≡ w * (n - 1) + w
+last-ends w n there = let back : n ≡ suc (n - 1) = omega arith in mul-comm n w ∙ ap (λ m. w * m) back ∙ mul-suc w (n - 1)
+
+-- n rows that end within the bytes are there, and others are not
+pub rows-here : (w : ℕ) (rows : List ℕ) (n : ℕ) → 4 ≤ w → 0 < n → n * w ≤ length rows → n - 1 < rowsIn w rows
 unfolding rowsIn
-row-here w rows i l h =
-    let wide : 0 < w = omega arith in
-    let last : i + 1 ≤ length rows / w = le-div-iff-mul-le wide .1 h in
+rows-here w rows n wide there h =
+    let positive : 0 < w = omega arith in
+    let last : n ≤ length rows / w = le-div-iff-mul-le positive .1 h in
     omega (arith, last)
 
--- one that does not is none of them
-pub row-past : (w : ℕ) (rows : List ℕ) (i : ℕ) → length rows < (i + 1) * w → i < rowsIn w rows → ⊥
-row-past w rows i h l = let end : (i + 1) * w ≡ w * i + w = mul-comm (i + 1) w ∙ rw add-one (mul-suc w i) in omega (arith, row-fits w rows i l, end)
+pub rows-past : (w : ℕ) (rows : List ℕ) (n : ℕ) → 0 < n → length rows < n * w → n - 1 < rowsIn w rows → ⊥
+rows-past w rows n there h l = omega (arith, row-fits w rows (n - 1) l, last-ends w n there)
 
 -- the next turn of a search, its end at a row, and its end without one
 module _ (w : ℕ) (rows : List ℕ) (e i : ℕ) (sofar : findRow w rows i e ≡ none) where

@@ -1,7 +1,7 @@
 // Rows of any width in a slice of bytes.
 ghost use mathlib.Core.Path.{_≡_};
 ghost use mathlib.Core.Bool.{true};
-ghost use Prim.Native.Nat.{_+_, _*_, _≤_, _<_};
+ghost use Prim.Native.Nat.{_+_, _-_, _*_, _≤_, _<_};
 ghost use Rattle.rows.specs.Rows.{rowsIn, u32Field, u64Field, NamedBy, findRow, foundAt, Distinct};
 
 pub enum Found {
@@ -48,15 +48,16 @@ pub fn find_row(rows: &[u8], w: usize, n: usize, entity: u32) -> Found
     Found::Nothing
 }
 
-// Whether row i is there and names the entity; it takes no division.
-pub fn names(rows: &[u8], w: usize, i: u32, entity: u32) -> bool
-    requires { ⌜ (4 ≤ w) × (w ≤ 32) ⌝ }
-    ensures { λ r. ⌜ (r ≡ true → NamedBy w (now (rows .entry)) entity i) × (NamedBy w (now (rows .entry)) entity i → r ≡ true) ⌝ }
+// Whether there are n rows and the last of these names the entity; it takes no division.
+pub fn names(rows: &[u8], w: usize, n: usize, entity: u32) -> bool
+    requires { ⌜ (0 < n) × (n ≤ 65536) × (4 ≤ w) × (w ≤ 32) ⌝ }
+    ensures { λ r. ⌜ (r ≡ true → NamedBy w (now (rows .entry)) entity (n - 1)) × (NamedBy w (now (rows .entry)) entity (n - 1) → r ≡ true) ⌝ }
 {
-    if rows.len() < (i as usize + 1) * w {
+    let end = n * w;
+    if rows.len() < end {
         return false;
     }
-    field(rows, w, i as usize, 0) == entity
+    little_endian::u32_at(rows, end - w) == entity
 }
 
 // Row mid where it is not past the entity, and else row i.

@@ -61,17 +61,16 @@ section-of-requires c κs = let p = c .before .before .before .before .before .p
 width-of-requires : tie.Need-width-of-requires
 width-of-requires c κs = let p = c .before .before .before .before .before .before .pre in (entity-section _ (looked-entity _ (p .1)), size-least _ (layout-ok _ (p .0 .opens)))
 
-sub-names : tie.Need-sub-names
-sub-names c = search needs
-
 names-requires : tie.Need-names-requires
-names-requires c κs = wide c
+names-requires c κs = (
+  omega (arith, c .before .before .if1 .left),
+  omega (arith, c .before .before .before .shared-slice-known3 .given (c .before .before .before .before .slot .result)),
+  wide c .0,
+  wide c .1,
+)
 
-cast-t16 : tie.Need-cast-t16
-cast-t16 c = omega (arith, c .before .before .before .before .before .shared-slice-known3 .given (c .before .before .before .before .before .before .slot .result))
-
-sub-t17 : tie.Need-sub-t17
-sub-t17 c = search needs
+sub-t15 : tie.Need-sub-t15
+sub-t15 c = search needs
 
 returns-2 : tie.Need-returns-2
 unfolding rowCount
@@ -97,10 +96,8 @@ find-row-spec =
     returns
     section-of-requires
     width-of-requires
-    sub-names
     names-requires
-    cast-t16
-    sub-t17
+    sub-t15
     returns-2
     find-distinct-requires
     returns-3)

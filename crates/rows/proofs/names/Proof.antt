@@ -1,31 +1,40 @@
--- `names` answers yes exactly for a row that is there and names the entity.
-use Prim.Native.Nat.{_+_, _≤_}
-use mathlib.Core.Path.{sym, _∙_}
+-- `names` answers yes exactly where the last of n rows is there and names the entity.
+use Prim.Native.Nat.{_-_, _*_, _+_}
+use mathlib.Core.Path.{_≡_, sym, ap, _∙_}
 use mathlib.Core.Bool.{false≢true}
 use native.Mathlib.Nat.{mul-le-mul}
 use native.Mathlib.Omega.{arith}
-use borrow.Author.Needs.{needs}
 use borrow.Author.Tests.{eqb-true, eq-eqb}
-use Rattle.rows.proofs.RowLaws.{row-here, row-past}
+use Rattle.little_endian.specs.LittleEndian.{littleEndian}
+use Rattle.rows.specs.Rows.{u32Field, entityAt}
+use Rattle.rows.proofs.RowLaws.{last-ends, rows-here, rows-past}
 use Rattle.rows.proofs.names.Statement.{statement}
 use Rattle.rows.proofs.names.Tie as tie
 
-add-if1 : tie.Need-add-if1
-add-if1 c = search needs
+read : (c : tie.After-u32-at) → c .u32-at .result ≡ entityAt (c .before .before .before .args .w) (c .before .before .before .args .rows .now) (c .before .before .before .args .n - 1)
+unfolding u32Field
+read c =
+    let a = c .before .before .before .args in
+    let start : a .n * a .w - a .w ≡ a .w * (a .n - 1) + 0 = omega (arith, last-ends (a .w) (a .n) (c .before .before .before .pre .0)) in
+    c .u32-at .ensures ∙ ap (littleEndian 4 (a .rows .now)) start
 
-mul-if1 : tie.Need-mul-if1
-mul-if1 c = let small : c .before .args .i + 1 ≤ 4294967296 = omega arith in omega (arith, mul-le-mul small (c .before .pre .1))
+mul-end : tie.Need-mul-end
+mul-end c = let p = c .before .pre in omega (arith, mul-le-mul (p .1) (p .3))
 
 returns : tie.Need-returns
-returns c =
-    (λ p. absurd (false≢true p), λ n. absurd (row-past _ _ _ (c .if1 .taken) (n .0)))
+returns c = let p = c .before .before .pre in (λ q. absurd (false≢true q), λ h. absurd (rows-past _ _ _ (p .0) (c .if1 .taken) (h .0)))
 
-field-requires : tie.Need-field-requires
-field-requires c κs = (row-here _ _ _ (c .before .before .pre .0) (c .if1 .left), c .before .before .pre .0)
+sub-u32-at : tie.Need-sub-u32-at
+sub-u32-at c = let a = c .before .before .args in omega (arith, last-ends (a .w) (a .n) (c .before .before .pre .0))
+
+u32-at-requires : tie.Need-u32-at-requires
+u32-at-requires c κs =
+    let a = c .before .before .args in let p = c .before .before .pre in omega (arith, last-ends (a .w) (a .n) (p .0), c .if1 .left, p .2)
 
 returns-2 : tie.Need-returns-2
 returns-2 c =
-    (λ p. (row-here _ _ _ (c .before .before .before .pre .0) (c .before .if1 .left), sym (c .field .ensures) ∙ eqb-true _ _ p), λ n. eq-eqb _ _ (c .field .ensures ∙ n .1))
+    let p = c .before .before .before .pre in
+    (λ q. (rows-here _ _ _ (p .2) (p .0) (c .before .if1 .left), sym (read c) ∙ eqb-true _ _ q), λ h. eq-eqb _ _ (read c ∙ h .1))
 
 pub names-spec : {M : Type 1} → statement M
-names-spec = tie.close (tie.spec add-if1 mul-if1 returns field-requires returns-2)
+names-spec = tie.close (tie.spec mul-end returns sub-u32-at u32-at-requires returns-2)
