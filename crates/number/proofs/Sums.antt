@@ -1,11 +1,7 @@
 -- Weighted sums: where each value is no more than the other's, under the same probabilities, the sum is no more than the other's, if that is finite. It may be minus infinity.
-use mathlib.Core.Path.{_≡_, refl, ap, _∙_}
-use mathlib.Core.Bool.{true, false}
 use mathlib.Core.List.{List, [], _∷_}
-use mathlib.Core.Option.{Option}
 use lib.Dec.{T}
-use Rattle.number.specs.Number.{Number, finite, infinite, nan, plus, times, atMost, isFinite, isProbability}
-use Rattle.number.specs.Answers.{finiteOnly, plusProduct}
+use Rattle.number.specs.Number.{Number, plus, times, atMost, isFinite, isProbability}
 use Rattle.number.proofs.Order.{finite-number}
 use Rattle.number.proofs.Addition.{plus-finite, plus-mono, plus-lower}
 use Rattle.number.proofs.Multiplication.{times-mono}
@@ -47,29 +43,3 @@ pub weightedSum-mono : (p x y : Number) {xs ys : List Outcome} → T (isProbabil
     → T (atMost (weightedSum (outcome p x) xs) (weightedSum (outcome p y) ys))
 unfolding weightedSum
 weightedSum-mono p x y q l u k = sumOn-mono (times p x) (times p y) u (times-mono p x y q l) k
-
--- each product is finite
-abbrev pub AllFinite : List Outcome → Type 0
-AllFinite [] = Unit
-AllFinite (outcome p y ∷ ys) = T (isFinite (times p y)) × AllFinite ys
-
--- ---- the code's running sum: out of range, once reached, is kept
-abbrev pub plusProducts : Option Number → List Outcome → Option Number
-plusProducts w [] = w
-plusProducts w (outcome p x ∷ ys) = plusProducts (plusProduct w (times p x)) ys
-
-finiteOnly-plus : (acc x : Number) → plusProduct (finiteOnly acc) x ≡ finiteOnly (plus acc x)
-unfolding plusProduct finiteOnly plus
-finiteOnly-plus (finite s a) x = refl
-finiteOnly-plus (infinite s) (finite t b) = refl
-finiteOnly-plus (infinite true) (infinite true) = refl
-finiteOnly-plus (infinite true) (infinite false) = refl
-finiteOnly-plus (infinite false) (infinite true) = refl
-finiteOnly-plus (infinite false) (infinite false) = refl
-finiteOnly-plus (infinite s) nan = refl
-finiteOnly-plus nan x = refl
-
-pub plusProducts-sumOn : (acc : Number) (ys : List Outcome) → plusProducts (finiteOnly acc) ys ≡ finiteOnly (sumOn acc ys)
-unfolding sumOn
-plusProducts-sumOn acc [] = refl
-plusProducts-sumOn acc (outcome p x ∷ ys) = ap (λ (w : Option Number). plusProducts w ys) (finiteOnly-plus acc (times p x)) ∙ plusProducts-sumOn (plus acc (times p x)) ys

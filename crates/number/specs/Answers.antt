@@ -1,7 +1,7 @@
 -- What the functions over f64 answer, in the words of Number.antt. Definitions only.
 use mathlib.Core.Bool.{cond}
 use mathlib.Core.Option.{Option, none, some}
-use Rattle.number.specs.Number.{Number, isFinite, plus}
+use Rattle.number.specs.Number.{Number, isFinite}
 use Rattle.number.specs.Meaning.{meaning}
 use Rattle.number.specs.declared.Utility.{Utility}
 use Rattle.number.specs.declared.UtilityResult.{UtilityResult}
@@ -25,8 +25,3 @@ utilityOf NonFinite = none
 abbrev pub weighted : Weighted → Option Number
 weighted (W.Finite x) = some (meaning x)
 weighted W.OutOfRange = none
-
--- one product more on a weighted sum: out of range stays out of range
-unfoldable pub plusProduct : Option Number → Number → Option Number
-plusProduct none x = none
-plusProduct (some sum) x = finiteOnly (plus sum x)

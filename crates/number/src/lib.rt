@@ -4,7 +4,7 @@ ghost use mathlib.Core.Path.{_≡_};
 ghost use lib.Dec.{T};
 ghost use Rattle.number.specs.Number.{plus, times, less, isFinite, isProbability, fromBits, toBits};
 ghost use Rattle.number.specs.Meaning.{meaning};
-ghost use Rattle.number.specs.Answers.{finiteOnly, utility, utilityOf, weighted, plusProduct};
+ghost use Rattle.number.specs.Answers.{finiteOnly, utility, utilityOf, weighted};
 
 // A payoff: a finite number.
 pub struct Utility(f64);
@@ -43,18 +43,6 @@ impl Utility {
 pub enum Weighted {
     Finite(f64),
     OutOfRange,
-}
-
-impl Weighted {
-    // One product more.
-    pub fn plus(self, product: f64) -> Weighted
-        ensures { λ r. ⌜ weighted r ≡ plusProduct (weighted self) (meaning product) ⌝ }
-    {
-        match self {
-            Weighted::Finite(sum) => in_range(add(sum, product)),
-            Weighted::OutOfRange => Weighted::OutOfRange,
-        }
-    }
 }
 
 // p * x, rounded once.

@@ -89,6 +89,3 @@ module _ (w : ℕ) (rows : List ℕ) (n : ℕ) (new : Distinct w rows n) where
   -- the search finds a row that names the entity, whichever it is
   pub find-one : (i e : ℕ) → i < n → entityAt w rows i ≡ e → some i ≡ findRow w rows n e
   find-one i e l p = find-here w rows e i (rw p at (new-entity w rows i (new i l))) n l p
-
-  pub find-own : (i : ℕ) → i < n → some i ≡ findRow w rows n (entityAt w rows i)
-  find-own i l = find-one i _ l refl

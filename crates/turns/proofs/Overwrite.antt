@@ -1,6 +1,6 @@
 -- A loop that goes over an array from the front and stores one element a turn: what stands in the array after j turns.
 use mathlib.Core.Path.{_≡_, refl, sym, ap, _∙_}
-use mathlib.Core.List.{List, [], _∷_, _++_, append-assoc, map, zipWith, List·Memᴰ, List·Memᴰ·head, List·Memᴰ·tail}
+use mathlib.Core.List.{List, [], _∷_, _++_, append-assoc, map, zipWith}
 use Prim.Native.Nat.{ℕ, zero, suc, _+_, _-_, _<_, _≤_}
 use native.Mathlib.Omega.{arith}
 use native.Mathlib.Nat.{sub-zero, zero-sub}
@@ -66,12 +66,3 @@ pub drop-replicate : {A : Type 0} (a : A) (k n : ℕ) → drop k (replicate n a)
 drop-replicate a zero n = rw sub-zero
 drop-replicate a (suc k) zero = rw (zero-sub (suc k))
 drop-replicate a (suc k) (suc n) = let e : suc n - suc k ≡ n - k = omega arith in rw e (drop-replicate a k n)
-
-pub element-in : {A : Type 0} (l : List A) (j : ℕ) (d : A) → j < length l → List·Memᴰ (getD l j d) l
-element-in [] j d h = absurd (omega arith)
-element-in (x ∷ l) zero d h = List·Memᴰ·head refl
-element-in (x ∷ l) (suc j) d h = List·Memᴰ·tail (element-in l j d (omega arith))
-
-pub map-snoc : {A B : Type 0} (f : A → B) (l : List A) (a : A) → map f (l ++ (a ∷ [])) ≡ map f l ++ (f a ∷ [])
-map-snoc f [] a = refl
-map-snoc f (x ∷ l) a = ap (λ r. f x ∷ r) (map-snoc f l a)

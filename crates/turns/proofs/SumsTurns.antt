@@ -1,7 +1,7 @@
 -- One outcome more on the weighted sums, and the answer that the sums come to: what the code does is what the definition says, whether a sum is in range or not.
 use mathlib.Core.Path.{_≡_, refl, sym, ap, _∙_, subst}
 use mathlib.Core.Bool.{true, false}
-use mathlib.Core.List.{List, [], _∷_, _++_, map, zipWith, List·Memᴰ}
+use mathlib.Core.List.{List, [], _∷_, _++_, map, zipWith}
 use mathlib.Core.Option.{Option, none, some}
 use Prim.Native.Nat.{ℕ, _+_, _<_, _≤_}
 use native.Mathlib.Omega.{arith}
@@ -11,13 +11,12 @@ use lib.Ieee.{Float}
 use borrow.Author.Tests.{eqb-true}
 use Rattle.number.specs.Number.{Number, plus}
 use Rattle.number.specs.Meaning.{meaning}
-use Rattle.number.specs.Answers.{finiteOnly, plusProduct}
 use Rattle.answer.specs.Fault.{Fault}
 use Rattle.answer.specs.Answer.{done, unless, faultIn}
 use Rattle.answer.proofs.AnswerLaws.{done-injective}
 use Rattle.answer.specs.Refusals.{noOutgoingChanceOutcomes, outOfRange}
 use Rattle.backward_induction.specs.declared.Method.{Method}
-use Rattle.backward_induction.specs.Solve.{products, countFault, added}
+use Rattle.backward_induction.specs.Solve.{products, countFault, added, allFinite}
 use Rattle.backward_induction.specs.Turns.{addedTo}
 use Rattle.backward_induction.proofs.SolveLaws.{in-range, not-in-range}
 use Rattle.backward_induction.proofs.Invert.{added-done}
@@ -29,7 +28,6 @@ use Rattle.memo.specs.Visits.{KeptAs}
 use Rattle.turns.specs.declared.Sums.{Sums}
 use Rattle.turns.specs.Sums.{cells, Sized, Holds, outcomeFault, SettledAs, weighedUp}
 use Rattle.turns.proofs.Overwrite.{length-zipWith, map-take}
-use Rattle.turns.proofs.SumLaws.{finite-sums, all-in-range, out-of-range}
 
 -- 19 is a matter of how many payoffs there are
 added-fault : (e : ℕ) (xs : List Number) (p : Number) (vs : List Number) → countFault e (length xs) (length vs) ≡ faultIn (added e xs p vs)
@@ -56,7 +54,7 @@ module _ (w : Sums) where
     first-holds vs s k e (some xs) more h q = not-both (h .stand .0) s
 
     pub more-holds : (n : ℕ) (values : List Float) → n ≤ length values → w .started ≡ true
-        → (r .started ≡ true) × (r .count ≡ w .count) × Sized r × (cells r ≡ zipWith plusProduct (cells w) (products p (map meaning (take (w .count) values))))
+        → (r .started ≡ true) × (r .count ≡ w .count) × Sized r × (cells r ≡ zipWith plus (cells w) (products p (map meaning (take (w .count) values))))
         → (e : ℕ) (sofar : Option (List Number)) (more : List Number) → Holds w sofar → addedTo e sofar p (map meaning (take n values)) ≡ done more → Holds r (some more)
     more-holds n values room s k e none more h q = not-both s (h .stand)
     more-holds n values room s k e (some xs) more h q =
@@ -72,7 +70,7 @@ module _ (w : Sums) where
           stand = (
             k .0,
             k .1 ∙ l ∙ sym (length-zipWith plus xs (products p vs) many),
-            k .3 ∙ rw (h .stand .2, same) (finite-sums p xs vs),
+            k .3 ∙ rw (h .stand .2, same) refl,
           );
         })
 
@@ -82,20 +80,19 @@ module _ (w : Sums) where
     sums-missing m s q method sheet none h = (refl, q)
     sums-missing m s q method sheet (some xs) h = not-both (h .stand .0) s
 
-    pub sums-out : (m : Rows) → w .started ≡ true → List·Memᴰ none (cells w) → v ≡ Refused (outOfRange e) → (method : Method) (sheet : List ℕ) (sofar : Option (List Number)) → Holds w sofar → KeptAs method sheet m m row depth (weighedUp e sofar) v
+    pub sums-out : (m : Rows) → w .started ≡ true → allFinite (cells w) ≡ false → v ≡ Refused (outOfRange e) → (method : Method) (sheet : List ℕ) (sofar : Option (List Number)) → Holds w sofar → KeptAs method sheet m m row depth (weighedUp e sofar) v
     sums-out m s i q method sheet none h = not-both s (h .stand)
-    sums-out m s i q method sheet (some xs) h = rw (not-in-range e xs (out-of-range xs (rw (h .stand .2) at i))) (refl, q)
+    sums-out m s i q method sheet (some xs) h = rw (not-in-range e xs (rw (h .stand .2) at i)) (refl, q)
 
   pub sums-kept : (e row depth : ℕ) (m m′ : Rows) (values : List Float) → depth < 64 → w .started ≡ true → SettledAs true (cells w) (map meaning values)
       → m′ ≡ stored m row (record { head = (depth + 1) ∷ 0 ∷ 0 ∷ 0 ∷ w .count ∷ 0 ∷ 0 ∷ []; payoffs = values })
       → (method : Method) (sheet : List ℕ) (sofar : Option (List Number)) → Holds w sofar → KeptAs method sheet m m′ row (depth + 1) (weighedUp e sofar) (Solved row)
   sums-kept e row depth m m′ values low s t q method sheet none h = not-both s (h .stand)
-  sums-kept e row depth m m′ values low s (same, later, room) q method sheet (some xs) h =
+  sums-kept e row depth m m′ values low s (all-finite, same, later, room) q method sheet (some xs) h =
       let ns = map meaning values in
-      let n : length (cells w) ≡ w .count = ap length (h .stand .2) ∙ length-map xs finiteOnly ∙ sym (h .stand .1) in
-      let (these, finite-all) = all-in-range xs (take (length (cells w)) ns) (sym (h .stand .2) ∙ same) in
-      let payoffs : map meaning (take (w .count) values) ≡ xs = map-take meaning (w .count) values ∙ ap (λ k. take k ns) (sym n) ∙ sym these in
-      rw (in-range e xs finite-all) (
+      let n : length (cells w) ≡ w .count = ap length (h .stand .2) ∙ sym (h .stand .1) in
+      let payoffs : map meaning (take (w .count) values) ≡ xs = map-take meaning (w .count) values ∙ ap (λ k. take k ns) (sym n) ∙ sym same ∙ h .stand .2 in
+      rw (in-range e xs (rw (h .stand .2) at all-finite)) (
         record {
           kept = record { head = (depth + 1) ∷ 0 ∷ 0 ∷ 0 ∷ w .count ∷ 0 ∷ 0 ∷ []; payoffs = values };
           stands = record {

@@ -7,9 +7,8 @@ ghost use Prim.Native.Nat.{ℕ, _+_, _<_, _≤_};
 ghost use lib.ListN.{length, getD, take};
 ghost use Rattle.answer.specs.Answer.{done};
 ghost use Rattle.answer.specs.Fault.{faultOf};
-ghost use Rattle.number.specs.Number.{Number};
+ghost use Rattle.number.specs.Number.{Number, plus};
 ghost use Rattle.number.specs.Meaning.{meaning};
-ghost use Rattle.number.specs.Answers.{plusProduct};
 ghost use Rattle.backward_induction.specs.Solve.{taken, products};
 ghost use Rattle.backward_induction.specs.Turns.{addedTo};
 ghost use Rattle.backward_induction.specs.declared.Method.{Method};
@@ -40,16 +39,11 @@ pub enum ReplyTurn {
     Stop(Refusal),
 }
 
-// One payoff's weighted sum.
-pub struct Sum {
-    pub sum: Weighted,
-}
-
-// The weighted sums of a chance node so far.
+// The weighted sums of a chance node so far, one per payoff. One that is not finite stays so, and is told at the end.
 pub struct Sums {
     pub started: bool,
     pub count: usize,
-    pub sums: [Sum; 8],
+    pub sums: [f64; 8],
 }
 
 // The sums as payoffs, and whether all are in range.
@@ -150,9 +144,7 @@ pub fn no_sums() -> Sums
     Sums {
         started: false,
         count: 0,
-        sums: [Sum {
-            sum: Weighted::Finite(0.0),
-        }; 8],
+        sums: [0.0f64; 8],
     }
 }
 
@@ -161,14 +153,10 @@ fn first_products(probability: f64, values: [f64; 8], count: usize) -> Sums
     requires { ⌜ count ≤ 8 ⌝ }
     ensures { λ r. ⌜ Holds r (some (products (meaning probability) (map meaning (take count values)))) ⌝ }
 {
-    let mut sums = [Sum {
-        sum: Weighted::Finite(0.0),
-    }; 8];
+    let mut sums = [0.0f64; 8];
     let mut j = 0;
     while j < count {
-        sums[j] = Sum {
-            sum: number::in_range(number::weigh(probability, values[j])),
-        };
+        sums[j] = number::weigh(probability, values[j]);
         j += 1;
     }
     Sums {
@@ -181,17 +169,13 @@ fn first_products(probability: f64, values: [f64; 8], count: usize) -> Sums
 // One more outcome's products on the sums so far.
 fn more_products(before: Sums, probability: f64, values: [f64; 8]) -> Sums
     requires { ⌜ Sized before ⌝ }
-    ensures { λ r. ⌜ (r .started ≡ true) × (r .count ≡ before .count) × Sized r × (cells r ≡ zipWith plusProduct (cells before) (products (meaning probability) (map meaning (take (before .count) values)))) ⌝ }
+    ensures { λ r. ⌜ (r .started ≡ true) × (r .count ≡ before .count) × Sized r × (cells r ≡ zipWith plus (cells before) (products (meaning probability) (map meaning (take (before .count) values)))) ⌝ }
 {
     let count = before.count;
     let mut sums = before.sums;
     let mut j = 0;
     while j < count {
-        let cell = sums[j];
-        let sum = cell.sum;
-        sums[j] = Sum {
-            sum: sum.plus(number::weigh(probability, values[j])),
-        };
+        sums[j] = number::add(sums[j], number::weigh(probability, values[j]));
         j += 1;
     }
     Sums {
@@ -242,19 +226,17 @@ pub fn outcome_to(
     first_products(probability, values, memo::wide(head[4]))
 }
 
-// The sums as payoffs, as far as all are in range.
+// The sums as payoffs: each is a finite number, or out of range.
 fn settle(sums: Sums) -> Settled
     requires { ⌜ Sized sums ⌝ }
     ensures { λ r. ⌜ SettledAs (r .«in_range») (cells sums) (map meaning (r .payoffs)) ⌝ }
 {
     let count = sums.count;
-    let cells = sums.sums;
+    let held = sums.sums;
     let mut payoffs = [0.0f64; 8];
     let mut j = 0;
     while j < count {
-        let cell = cells[j];
-        let sum = cell.sum;
-        let Weighted::Finite(x) = sum else {
+        let Weighted::Finite(x) = number::in_range(held[j]) else {
             return Settled {
                 in_range: false,
                 payoffs,

@@ -1,4 +1,4 @@
--- `first_products` holds the first outcome's products. The loop's invariant: the first j cells are those of the products.
+-- `first_products` holds the first outcome's products. The loop's invariant: the first j sums are the products.
 use Prim.Native.Nat.{_-_, _≤_}
 use mathlib.Core.Path.{_≡_, refl, sym, ap, _∙_}
 use mathlib.Core.List.{map}
@@ -8,17 +8,14 @@ use lib.ListN.{length, take, length-set}
 use lib.Ieee.{nan}
 use Rattle.number.specs.Meaning.{meaning}
 use Rattle.number.specs.Number.{times}
-use Rattle.number.specs.Answers.{finiteOnly}
 use Rattle.backward_induction.specs.Solve.{products}
-use Rattle.turns.specs.Sums.{cell}
 use Rattle.turns.proofs.Overwrite.{over, over-next, over-taken}
-use Rattle.turns.proofs.SumLaws.{products-count, first-count, first-at}
+use Rattle.turns.proofs.SumLaws.{products-count, first-at}
 use Rattle.turns.proofs.first_products.Statement.{statement}
 use Rattle.turns.proofs.first_products.Tie as tie
 
 abbrev Inv-loop : tie.InvT-loop
-Inv-loop probability count values sums₀ j₀ sums j =
-    (j ≤ count) × (length sums ≡ 8) × (map cell sums ≡ over (map finiteOnly (products (meaning probability) (map meaning (take count values)))) (map cell sums₀) j)
+Inv-loop probability count values sums₀ j₀ sums j = (j ≤ count) × (length sums ≡ 8) × (map meaning sums ≡ over (products (meaning probability) (map meaning (take count values))) (map meaning sums₀) j)
 
 abbrev μ-loop : tie.MeasureT-loop
 μ-loop probability count values sums₀ j₀ sums j = count - j
@@ -35,14 +32,11 @@ array-read-weigh c = omega arith
 weigh-requires : tie.Need-weigh-requires Inv-loop μ-loop
 weigh-requires c κs = search needs
 
-in-range-requires : tie.Need-in-range-requires Inv-loop μ-loop
-in-range-requires c κs = search needs
-
 mul-sums : tie.Need-mul-sums Inv-loop μ-loop
 mul-sums c = omega arith
 
-array-set-from-sums : tie.Need-array-set-from-sums Inv-loop μ-loop
-array-set-from-sums c = omega arith
+array-write-sums : tie.Need-array-write-sums Inv-loop μ-loop
+array-write-sums c = omega arith
 
 add-j : tie.Need-add-j Inv-loop μ-loop
 add-j c = omega arith
@@ -52,35 +46,32 @@ loop-less c = omega arith
 
 loop-again : tie.Need-loop-again Inv-loop μ-loop
 loop-again c =
-    let start = c .before .before .before .before in
-    let loop-head = c .before .before .before in
-    let after-weigh = c .before in
-    let l = loop-head .loop in
+    let start = (c .before .before .before) in
+    let l = (c .before .before) .loop in
     let a = start .args in
     let p = meaning (a .probability) in
     let long : length (a .t2) ≡ 8 = search needs in
     let small = start .pre in
-    let count = first-count p (a .t2) (a .count) (omega arith) in (
+    let count = products-count p (a .t2) (a .count) (omega arith) in (
       omega arith,
       length-set (l .sums) (l .j) _ ∙ l .inv .1,
-      over-next cell _ _ (l .sums) (l .j) (finiteOnly (times p (meaning nan))) _ (omega arith) (omega arith) (l .inv .2)
-          (c .in-range .ensures ∙ ap finiteOnly (after-weigh .weigh .ensures) ∙ first-at p (a .t2) (a .count) (omega arith) (l .j) nan (omega arith)),
+      over-next meaning _ _ (l .sums) (l .j) (times p (meaning nan)) _ (omega arith) (omega arith) (l .inv .2)
+          (c .weigh .ensures ∙ first-at p (a .t2) (a .count) (omega arith) (l .j) nan (omega arith)),
     )
 
 returns : tie.Need-returns Inv-loop μ-loop
 returns c =
-    let start = c .before .before in
-    let loop-head = c .before in
-    let l = loop-head .loop in
+    let start = (c .before .before) in
+    let l = (c .before) .loop in
     let a = start .args in
     let p = meaning (a .probability) in
     let long : length (a .t2) ≡ 8 = search needs in
     let small = start .pre in
     let end : l .j ≡ a .count = omega arith in
-    let count = first-count p (a .t2) (a .count) (omega arith) in
+    let count = products-count p (a .t2) (a .count) (omega arith) in
     record {
       sized = record { room = l .inv .1; few = small };
-      stand = (refl, sym (products-count p (a .t2) (a .count) (omega arith)), ap (take (a .count)) (rw end at (l .inv .2)) ∙ over-taken _ _ (a .count) count);
+      stand = (refl, sym count, ap (take (a .count)) (rw end at (l .inv .2)) ∙ over-taken _ _ (a .count) count);
     }
 
 pub first-products-spec : {M : Type 1} → statement M
@@ -93,9 +84,8 @@ first-products-spec =
     mul-weigh
     array-read-weigh
     weigh-requires
-    in-range-requires
     mul-sums
-    array-set-from-sums
+    array-write-sums
     add-j
     loop-less
     loop-again
