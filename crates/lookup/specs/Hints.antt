@@ -20,7 +20,7 @@ placeOf k = k / 4
 
 -- an entity and its higher digits added up: entities one after the other, or in steps of a power of two, have slots of their own in tables of any length
 unfoldable pub folded : ℕ → ℕ
-folded e = e + e / 2048 + e / 65536
+folded e = e + e / 1024 + e / 32768
 
 -- where in a table of n hints that of an entity's row of section k stands
 unfoldable pub slotOf : ℕ → ℕ → ℕ → ℕ

@@ -21,7 +21,7 @@ fn slot(n: usize, k: usize, entity: u32) -> usize
     ensures { λ r. ⌜ r ≡ slotOf n k entity ⌝ }
 {
     let e = entity as usize;
-    (2 * (e + e / 2048 + e / 65536) + k / 4) & (n - 1)
+    (2 * (e + e / 1024 + e / 32768) + k / 4) & (n - 1)
 }
 
 fn note(hints: &mut [u16], k: usize, entity: u32, hint: u16)

@@ -6,7 +6,7 @@ use native.Mathlib.Omega.{arith}
 use native.Mathlib.Nat.{sub-zero, zero-sub}
 use native.Mathlib.Numerals.{add-one}
 use lib.ListN.{length, getD, take, drop, set, replicate}
-use lib.Seq.{take-suc, drop-cons, length-take-le, take-all, take-at, set-at, getD-at}
+use lib.Seq.{take-take, take-suc, drop-cons, length-take-le, take-all, take-at, set-at, getD-at}
 
 -- the first j elements of the new list, and then those of the old
 abbrev pub over : {B : Type 0} → List B → List B → ℕ → List B
@@ -33,6 +33,9 @@ module _ {B : Type 0} (new old : List B) where
   pub over-taken : (j : ℕ) → length new ≡ j → take j (over new old j) ≡ new
   over-taken j e = rw (over-end j e) (take-at new (drop j old) j e)
 
+  pub over-front : (k j : ℕ) → k ≤ j → length new ≡ j → take k (over new old j) ≡ take k new
+  over-front k j h e = sym (take-take k j (over new old j) h) ∙ ap (take k) (over-taken j e)
+
 -- a turn: the element stored stands for the new list's next
 pub over-next : {A B : Type 0} (f : A → B) (new old : List B) (out : List A) (j : ℕ) (d : B) (v : A) → j < length new → j < length old
     → map f out ≡ over new old j → f v ≡ getD new j d → map f (set out j v) ≡ over new old (j + 1)
@@ -56,6 +59,13 @@ unfolding zipWith
 length-zipWith f [] ys h = refl
 length-zipWith f (x ∷ xs) [] h = absurd (omega arith)
 length-zipWith f (x ∷ xs) (y ∷ ys) h = ap suc (length-zipWith f xs ys (omega arith))
+
+pub take-zipWith : {A B C : Type 0} (f : A → B → C) (k : ℕ) (xs : List A) (ys : List B) → take k (zipWith f xs ys) ≡ zipWith f (take k xs) (take k ys)
+unfolding zipWith
+take-zipWith f zero xs ys = refl
+take-zipWith f (suc k) [] ys = refl
+take-zipWith f (suc k) (x ∷ xs) [] = refl
+take-zipWith f (suc k) (x ∷ xs) (y ∷ ys) = ap (λ r. f x y ∷ r) (take-zipWith f k xs ys)
 
 pub map-take : {A B : Type 0} (f : A → B) (n : ℕ) (l : List A) → map f (take n l) ≡ take n (map f l)
 map-take f zero l = refl

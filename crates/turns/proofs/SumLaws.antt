@@ -7,7 +7,7 @@ use Prim.Native.Nat.{ℕ, zero, suc, _+_, _<_, _≤_}
 use native.Mathlib.Omega.{arith}
 use native.Mathlib.Numerals.{add-one}
 use lib.ListN.{length, getD, take, drop, set, replicate, length-take, length-set, length-map, List·getD-map}
-use lib.Seq.{take-suc, take-suc-set, drop-set-lt, drop-drop, getD-take, length-take-le}
+use lib.Seq.{take-take, take-suc, take-suc-set, drop-set-lt, drop-drop, getD-take, length-take-le}
 use lib.Ieee.{Float}
 use Rattle.number.specs.Number.{Number, finite, plus, times, isFinite}
 use Rattle.number.specs.Meaning.{meaning}
@@ -16,7 +16,7 @@ use Rattle.number.specs.declared.Weighted.{Weighted}
 use Rattle.number.specs.declared.Weighted.the-variants.{Finite, OutOfRange}
 use Rattle.backward_induction.specs.Solve.{products, allFinite}
 use Rattle.turns.specs.Sums.{SettledAs}
-use Rattle.turns.proofs.Overwrite.{over, over-next, over-at, map-set, drop-replicate, getD-zipWith, length-zipWith}
+use Rattle.turns.proofs.Overwrite.{over, over-next, over-at, map-set, map-take, drop-replicate, getD-zipWith, length-zipWith, take-zipWith}
 
 -- ---- the products of the first n payoffs
 module _ (p : Number) (values : List Float) (n : ℕ) (enough : n ≤ length values) where
@@ -48,6 +48,17 @@ module _ (p : Number) (values : List Float) (n : ℕ) (enough : n ≤ length val
         let f = products-count in
         sym (getD-zipWith plus (take n old) _ j o (times p (meaning d)) (omega arith) (omega arith)
         ∙ rw (getD-take n old j o h, product-at j d h))
+
+-- of n products and sums the first k
+pub products-front : (p : Number) (values : List Float) (k n : ℕ) → k ≤ n → take k (products p (map meaning (take n values))) ≡ products p (map meaning (take k values))
+unfolding products
+products-front p values k n h =
+    sym (map-take (times p) k (map meaning (take n values)))
+    ∙ ap (map (times p)) (sym (map-take meaning k (take n values)) ∙ ap (map meaning) (take-take k n values h))
+
+pub more-front : (p : Number) (values : List Float) (old : List Number) (k n : ℕ) → k ≤ n
+    → take k (zipWith plus (take n old) (products p (map meaning (take n values)))) ≡ zipWith plus (take k old) (products p (map meaning (take k values)))
+more-front p values old k n h = take-zipWith plus k (take n old) _ ∙ rw (take-take k n old h, products-front p values k n h) refl
 
 -- one more product stored in its place
 pub more-turn : (p : Number) (values : List Float) (n : ℕ) (old sums : List Float) (j : ℕ) (d v product r : Float) → n ≤ length values → n ≤ length old → j < n

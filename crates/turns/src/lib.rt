@@ -148,14 +148,14 @@ pub fn no_sums() -> Sums
     }
 }
 
-// The first outcome's products.
+// The first outcome's products. All eight are made, of which the first so many count.
 fn first_products(probability: f64, values: [f64; 8], count: usize) -> Sums
     requires { ⌜ count ≤ 8 ⌝ }
     ensures { λ r. ⌜ Holds r (some (products (meaning probability) (map meaning (take count values)))) ⌝ }
 {
     let mut sums = [0.0f64; 8];
     let mut j = 0;
-    while j < count {
+    while j < 8 {
         sums[j] = number::weigh(probability, values[j]);
         j += 1;
     }
@@ -174,7 +174,7 @@ fn more_products(before: Sums, probability: f64, values: [f64; 8]) -> Sums
     let count = before.count;
     let mut sums = before.sums;
     let mut j = 0;
-    while j < count {
+    while j < 8 {
         sums[j] = number::add(sums[j], number::weigh(probability, values[j]));
         j += 1;
     }

@@ -70,17 +70,18 @@ fn entities(draft: &Draft) -> Vec<u32> {
 /// modulo its own length, a power of two; and the repeat check's.
 fn slots(entity: u32) -> [u64; 2] {
     let entity = u64::from(entity);
-    let hint = entity + entity / 2_048 + entity / 65_536;
+    let hint = entity + entity / 1_024 + entity / 32_768;
     let repeat = entity + entity / 1_024 + entity / 1_048_576;
     [hint % 2_048, repeat % 1_024]
 }
 
 /// The most entities that share both slots, the first of which is 0, rising: about two thousand.
 static CROWD: LazyLock<Vec<u32>> = LazyLock::new(|| {
-    // of the 2,048 entities with the same quotient by 2,048, one has the first slot 0
-    let first_is_0 = |high: u32| 2_048 * high + (2_048 - (high + high / 32) % 2_048) % 2_048;
+    // of the 1,024 entities with the same quotient by 1,024, at most one has the first slot 0
+    let low = |high: u32| (2_048 - (1_025 * u64::from(high) + u64::from(high / 32)) % 2_048) as u32 % 2_048;
     let mut crowds = vec![Vec::new(); 1_024];
-    for entity in (0..1 << 21).map(first_is_0) {
+    for high in (0..1 << 22).filter(|&high| low(high) < 1_024) {
+        let entity = 1_024 * high + low(high);
         crowds[slots(entity)[1] as usize].push(entity);
     }
     crowds.into_iter().max_by_key(Vec::len).expect("a slot")

@@ -9,16 +9,16 @@ use lib.Ieee.{nan}
 use Rattle.number.specs.Meaning.{meaning}
 use Rattle.number.specs.Number.{plus}
 use Rattle.backward_induction.specs.Solve.{products}
-use Rattle.turns.proofs.Overwrite.{over, over-taken}
-use Rattle.turns.proofs.SumLaws.{more-count, more-turn}
+use Rattle.turns.proofs.Overwrite.{over, over-front}
+use Rattle.turns.proofs.SumLaws.{more-count, more-turn, more-front}
 use Rattle.turns.proofs.more_products.Statement.{statement}
 use Rattle.turns.proofs.more_products.Tie as tie
 
 abbrev Inv-loop : tie.InvT-loop
-Inv-loop probability values count sums₀ j₀ sums j = (j ≤ count) × (length sums ≡ 8) × (map meaning sums ≡ over (zipWith plus (take count (map meaning sums₀)) (products (meaning probability) (map meaning (take count values)))) (map meaning sums₀) j)
+Inv-loop probability values count sums₀ j₀ sums j = (j ≤ 8) × (length sums ≡ 8) × (map meaning sums ≡ over (zipWith plus (take 8 (map meaning sums₀)) (products (meaning probability) (map meaning (take 8 values)))) (map meaning sums₀) j)
 
 abbrev μ-loop : tie.MeasureT-loop
-μ-loop probability values count sums₀ j₀ sums j = count - j
+μ-loop probability values count sums₀ j₀ sums j = 8 - j
 
 loop-holds : tie.Need-loop-holds Inv-loop μ-loop
 loop-holds c = (omega arith, (c .before) .pre .room, refl)
@@ -62,7 +62,7 @@ loop-again c =
     let sized = start .pre in (
       omega arith,
       length-set (l .sums) (l .j) _ ∙ l .inv .1,
-      more-turn (meaning (a .probability)) (a .t3) (a .before .count) (a .before .sums) (l .sums) (l .j) nan nan ((c .before) .weigh .result) (c .add .result) (omega arith) (omega arith) (omega arith) (l .inv .2)
+      more-turn (meaning (a .probability)) (a .t3) 8 (a .before .sums) (l .sums) (l .j) nan nan ((c .before) .weigh .result) (c .add .result) (omega arith) (omega arith) (omega arith) (l .inv .2)
           ((c .before) .weigh .ensures) (c .add .ensures),
     )
 
@@ -75,9 +75,9 @@ returns c =
     let long : length (a .t3) ≡ 8 = search needs in
     let sized = start .pre in
     let olds : length old ≡ 8 = length-map (a .before .sums) meaning ∙ sized .room in
-    let end : l .j ≡ a .before .count = omega arith in
-    let count = more-count (meaning (a .probability)) (a .t3) (a .before .count) (omega arith) old (omega arith) in
-    (refl, refl, record { room = l .inv .1; few = sized .few }, ap (take (a .before .count)) (rw end at (l .inv .2)) ∙ over-taken _ _ (a .before .count) count)
+    let end : l .j ≡ 8 = omega arith in
+    let count = more-count (meaning (a .probability)) (a .t3) 8 (omega arith) old (omega arith) in
+    (refl, refl, record { room = l .inv .1; few = sized .few }, ap (take (a .before .count)) (rw end at (l .inv .2)) ∙ over-front _ old (a .before .count) 8 (sized .few) count ∙ more-front (meaning (a .probability)) (a .t3) old (a .before .count) 8 (sized .few))
 
 pub more-products-spec : {M : Type 1} → statement M
 more-products-spec =
