@@ -34,17 +34,19 @@ fn unlink(links: &mut [u32], n: usize, end: u32)
     }
 }
 
-// Child row i in front of the child rows of its parent.
-fn link_row(sheet: &[u8], hints: &[u16], links: &mut [u32], i: usize)
-    requires { ⌜ Noted (now sheet) (now hints) × (i < rowCount (now sheet) 1) × LinkedFrom (now sheet) (i + 1) (now links) ⌝ }
-    ensures { λ _. ⌜ LinkedFrom (now (sheet .entry)) i (now (links .exit)) ⌝ }
+// Child row i in front of the child rows of its parent. The node row that the last child row had, counted from 1, is looked at first,
+// since children often stand together; the answer is this one's.
+fn link_row(sheet: &[u8], hints: &[u16], links: &mut [u32], i: usize, near: usize) -> usize
+    requires { ⌜ Noted (now sheet) (now hints) × (i < rowCount (now sheet) 1) × LinkedFrom (now sheet) (i + 1) (now links) × (0 < near) × (near ≤ 65536) ⌝ }
+    ensures { λ r. ⌜ LinkedFrom (now (sheet .entry)) i (now (links .exit)) × (0 < r) × (r ≤ 65536) ⌝ }
 {
     let parent = layout::u32_field(sheet, 1, i, 4);
-    let Found::At(r) = lookup::find_row(sheet, hints, 0, parent) else {
-        return;
+    let Found::At(r) = lookup::find_row_near(sheet, hints, 0, near, parent) else {
+        return near;
     };
     links[2 * i + 1] = links[2 * r];
     links[2 * r] = i as u32;
+    r + 1
 }
 
 // Links the child rows by parent.
@@ -54,9 +56,10 @@ pub fn link(sheet: &[u8], hints: &[u16], links: &mut [u32])
 {
     let n = layout::row_count(sheet, 1);
     unlink(links, layout::row_count(sheet, 0), n as u32);
+    let mut near = 1;
     let mut i = n;
     while 0 < i {
         i -= 1;
-        link_row(sheet, hints, links, i);
+        near = link_row(sheet, hints, links, i, near);
     }
 }

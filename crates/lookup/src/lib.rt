@@ -5,7 +5,7 @@
 ghost use mathlib.Core.Path.{_≡_};
 ghost use mathlib.Core.Option.{none};
 ghost use mathlib.Core.Bool.{true};
-ghost use Prim.Native.Nat.{_<_};
+ghost use Prim.Native.Nat.{_<_, _≤_};
 ghost use lib.ListN.{length};
 ghost use Rattle.rows.specs.Rows.{findRow, foundAt};
 ghost use Rattle.layout.specs.Layout.{width, section, rowCount, layoutFault};
@@ -77,4 +77,17 @@ pub fn find_row(sheet: &[u8], hints: &[u16], k: usize, entity: u32) -> Found
         return Found::At(hint - 1);
     }
     rows::find_distinct(section, w, entity)
+}
+
+// The same, where the last of the first n rows is looked at first.
+pub fn find_row_near(sheet: &[u8], hints: &[u16], k: usize, n: usize, entity: u32) -> Found
+    requires { ⌜ Noted (now sheet) (now hints) × (lookedUp k ≡ true) × (0 < n) × (n ≤ 65536) ⌝ }
+    ensures { λ r. ⌜ foundAt r ≡ findRow (width (now (sheet .entry)) k) (section (now (sheet .entry)) k) (rowCount (now (sheet .entry)) k) entity ⌝ }
+{
+    let section = section_of(sheet, k);
+    let w = width_of(sheet, k);
+    if rows::names(section, w, n, entity) {
+        return Found::At(n - 1);
+    }
+    find_row(sheet, hints, k, entity)
 }

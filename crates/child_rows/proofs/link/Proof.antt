@@ -1,5 +1,5 @@
 -- `link` links every child row, from the last to the first. The loop's invariant: those from row i on are linked.
-use Prim.Native.Nat.{ℕ, _+_, _-_, _≤_}
+use Prim.Native.Nat.{ℕ, _+_, _-_, _<_, _≤_}
 use mathlib.Core.Path.{_≡_, refl, _∙_}
 use native.Mathlib.Omega.{arith}
 use lib.Dec.{lit<}
@@ -13,10 +13,10 @@ use Rattle.child_rows.proofs.link.Statement.{statement}
 use Rattle.child_rows.proofs.link.Tie as tie
 
 abbrev Inv-loop : tie.InvT-loop
-Inv-loop sheet hints links₀ n i₀ links i = (length links ≡ length links₀) × (i ≤ rowCount sheet 1) × LinkedFrom sheet i links
+Inv-loop sheet hints links₀ n near₀ i₀ links near i = (length links ≡ length links₀) × (i ≤ rowCount sheet 1) × LinkedFrom sheet i links × (0 < near) × (near ≤ 65536)
 
 abbrev μ-loop : tie.MeasureT-loop
-μ-loop sheet hints links₀ n i₀ links i = i
+μ-loop sheet hints links₀ n near₀ i₀ links near i = i
 
 row-count-requires : tie.Need-row-count-requires Inv-loop μ-loop
 row-count-requires c κs = (lit< tt, opens-layout _ ((c .before .before .before) .pre .0 .opens))
@@ -38,7 +38,7 @@ loop-holds c =
     let f = (c .before .before) .unlink in
     let room = f .kept .0 in
     let here : _≡_ {A = ℕ} ((c .before .before .before .before .before) .row-count .result) (rowCount ((c .before .before .before .before .before .before .before .before .before) .args .sheet .now) 1) = n in
-    (refl, omega arith, rw here (unlinked _ _ (omega (arith, p .1)) (omega (arith, p .2)) (λ r h. f .ensures r (omega (arith, (c .before .before .before) .row-count2 .ensures)) ∙ n)))
+    (refl, omega arith, rw here (unlinked _ _ (omega (arith, p .1)) (omega (arith, p .2)) (λ r h. f .ensures r (omega (arith, (c .before .before .before) .row-count2 .ensures)) ∙ n)), omega arith, omega arith)
 
 sub-i : tie.Need-sub-i Inv-loop μ-loop
 sub-i c = omega arith
@@ -48,7 +48,7 @@ link-row-requires c κs =
     let inv = (c .before .before) .loop .inv in
     let i = (c .before .before) .loop .i in
     let back : i - 1 + 1 ≡ i = omega arith in
-    ((c .before .before .before .before .before .before .before .before .before .before .before .before) .pre .0, omega (arith, inv), rw back (inv .2))
+    ((c .before .before .before .before .before .before .before .before .before .before .before .before) .pre .0, omega (arith, inv), rw back (inv .2), inv .3, inv .4)
 
 loop-less : tie.Need-loop-less Inv-loop μ-loop
 loop-less c = omega arith
@@ -57,7 +57,7 @@ loop-again : tie.Need-loop-again Inv-loop μ-loop
 loop-again c =
     let inv = (c .before .before .before .before .before) .loop .inv in
     let l = (c .before .before) .link-row in
-    (l .kept .1 .1 .0 ∙ inv .0, omega (arith, inv), l .ensures)
+    (l .kept .1 .1 .0 ∙ inv .0, omega (arith, inv), l .ensures .0, l .ensures .1, l .ensures .2)
 
 same-length : tie.Need-same-length Inv-loop μ-loop
 same-length c = (c .before) .loop .inv .0 ∙ (c .before .before .before .before) .unlink .kept .0

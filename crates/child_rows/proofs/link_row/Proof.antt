@@ -17,10 +17,10 @@ use Rattle.child_rows.proofs.link_row.Statement.{statement}
 use Rattle.child_rows.proofs.link_row.Tie as tie
 
 -- what was searched for is the parent of row i
-by-parent : (c : tie.After-find-row) → (let s = c .before .before .before .before .before .args .sheet .now in
-    foundAt (c .find-row .result) ≡ findRow (width s 0) (section s 0) (rowCount s 0) (parentIn s (c .before .before .before .before .before .args .i)))
+by-parent : (c : tie.After-find-row-near) → (let s = c .before .before .before .before .before .args .sheet .now in
+    foundAt (c .find-row-near .result) ≡ findRow (width s 0) (section s 0) (rowCount s 0) (parentIn s (c .before .before .before .before .before .args .i)))
 unfolding childRow
-by-parent c = c .find-row .ensures ∙ ap (findRow _ _ _) (c .before .u32-field .ensures)
+by-parent c = c .find-row-near .ensures ∙ ap (findRow _ _ _) (c .before .u32-field .ensures)
 
 -- the links of the parent's node row and of row i are there, and row numbers are small
 there : (c : tie.After-r) → (let a = c .before .before .before .before .before .before .before .args in
@@ -39,9 +39,9 @@ u32-field-requires : tie.Need-u32-field-requires
 unfolding width
 u32-field-requires c κs = let p = c .before .before .before .pre in search (needs, opens-layout)
 
-find-row-requires : tie.Need-find-row-requires
+find-row-near-requires : tie.Need-find-row-near-requires
 unfolding lookedUp
-find-row-requires c κs = (c .before .before .before .before .pre .0, refl)
+find-row-near-requires c κs = let p = c .before .before .before .before .pre in (p .0, refl, p .3, p .4)
 
 enum-known-r : tie.Need-enum-known-r
 enum-known-r c = search needs
@@ -50,7 +50,9 @@ enum-told : tie.Need-enum-told
 enum-told c = search needs
 
 returns : tie.Need-returns
-returns c = let p = c .before .before .before .before .before .before .before .pre in link-none _ _ _ (p .0 .opens) (p .1) (p .2) _ (by-parent (c .before .before)) (c .enum-told .given .1)
+returns c =
+    let p = c .before .before .before .before .before .before .before .pre in
+    (link-none _ _ _ (p .0 .opens) (p .1) (p .2) _ (by-parent (c .before .before)) (c .enum-told .given .1), p .3, p .4)
 
 mul-links : tie.Need-mul-links
 mul-links c = omega (arith, there (c .before))
@@ -85,18 +87,23 @@ mul-links-6 c = omega (arith, there (c .before .before))
 slice-write-links-2 : tie.Need-slice-write-links-2
 slice-write-links-2 c = simp length-set (there (c .before .before) .2)
 
+add-result : tie.Need-add-result
+add-result c = omega (arith, there (c .before .before))
+
 same-length : tie.Need-same-length
 same-length c = search needs
 
 returns-2 : tie.Need-returns-2
-returns-2 c = let p = c .before .before .before .before .before .before .before .before .before .pre in link-own _ _ _ (p .0 .opens) (p .1) (p .2) _ (by-parent (c .before .before .before .before)) _ (c .before .before .r .given .1)
+returns-2 c =
+    let p = c .before .before .before .before .before .before .before .before .before .pre in
+    (link-own _ _ _ (p .0 .opens) (p .1) (p .2) _ (by-parent (c .before .before .before .before)) _ (c .before .before .r .given .1), omega arith, omega (arith, there (c .before .before)))
 
 pub link-row-spec : {M : Type 1} → statement M
 link-row-spec =
     tie.close
     (tie.spec
     u32-field-requires
-    find-row-requires
+    find-row-near-requires
     enum-known-r
     enum-told
     returns
@@ -111,5 +118,6 @@ link-row-spec =
     mul-links-5
     mul-links-6
     slice-write-links-2
+    add-result
     same-length
     returns-2)
