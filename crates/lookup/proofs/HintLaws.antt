@@ -15,11 +15,11 @@ use Rattle.rows.proofs.RowLaws.{not-named}
 use Rattle.layout.specs.Layout.{width, section, rowCount, field}
 use Rattle.opening.specs.SheetFault.{hasEntity}
 use Rattle.opening.proofs.AcceptedRows.{left-true}
-use Rattle.lookup.specs.Hints.{lookedUp, placeOf, folded, slotOf, hintOf, StillNoted, Noted}
+use Rattle.lookup.specs.Hints.{lookedUp, folded, slotOf, hintOf, StillNoted, Noted}
 
 pub slot-within : (n k e : ℕ) → 0 < n → slotOf n k e < n
 unfolding slotOf
-slot-within n k e h = omega (arith, and-le-r (2 * folded e + placeOf k) (n - 1))
+slot-within n k e h = omega (arith, and-le-r (8 * folded e + k) (n - 1))
 
 -- a hint that is set
 module _ (hints : List ℕ) (j x : ℕ) (here : j < length hints) (given : 0 < x) where

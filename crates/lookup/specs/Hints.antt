@@ -14,17 +14,13 @@ use Rattle.opening.specs.SheetFault.{sheetFault}
 unfoldable pub lookedUp : ℕ → Bool
 lookedUp k = ltb k 6 && not (eqb k 1)
 
--- which of an entity's two hints is that of its row of section k: its node, action or chance row has the first, its transition or terminal row the second
-unfoldable pub placeOf : ℕ → ℕ
-placeOf k = k / 4
-
--- an entity and its higher digits added up: entities one after the other, or in steps of a power of two, have slots of their own in tables of any length
+-- an entity and its higher digits added up, so that entities in steps of ten, a thousand or 65,536 have places apart as well as those one after the other
 unfoldable pub folded : ℕ → ℕ
 folded e = e + e / 1024 + e / 32768
 
 -- where in a table of n hints that of an entity's row of section k stands
 unfoldable pub slotOf : ℕ → ℕ → ℕ → ℕ
-slotOf n k e = bitAnd (2 * folded e + placeOf k) (n - 1)
+slotOf n k e = bitAnd (8 * folded e + k) (n - 1)
 
 unfoldable pub hintOf : List ℕ → ℕ → ℕ → ℕ
 hintOf hints k e = getD hints (slotOf (length hints) k e) 0

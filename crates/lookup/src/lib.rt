@@ -1,6 +1,6 @@
 // Lookups of a row by its entity in a sheet without fault, by a table of hints that is filled once.
-// Hints: in which row of section k an entity may stand. An entity has two places, one beside the other, in a table whose length is a power of two.
-// A node has rows in sections 0 and 5, and an edge in 2 or 3 and in 4, so that the rows of one entity have hints of their own.
+// Hints: in which row of section k an entity may stand. An entity has eight places side by side, of which section k has the one numbered k,
+// in a table whose length is a power of two.
 // A hint is looked at before it is used, since rows of different entities may share one; where there is none there is no row.
 ghost use mathlib.Core.Path.{_≡_};
 ghost use mathlib.Core.Option.{none};
@@ -21,7 +21,7 @@ fn slot(n: usize, k: usize, entity: u32) -> usize
     ensures { λ r. ⌜ r ≡ slotOf n k entity ⌝ }
 {
     let e = entity as usize;
-    (2 * (e + e / 1024 + e / 32768) + k / 4) & (n - 1)
+    (8 * (e + e / 1024 + e / 32768) + k) & (n - 1)
 }
 
 fn note(hints: &mut [u16], k: usize, entity: u32, hint: u16)

@@ -157,7 +157,7 @@ fn list_paths(sheet: &[u8], start: u32, depth: usize, out: &mut [u64]) -> Writte
     ensures { λ r. ⌜ leaves r (now (out .exit)) ≡ outcome (now (out .entry)) (listingFrom (gameOf (now (sheet .entry))) depth start (length (now (out .entry)))) ⌝ }
 {
     let room = out.len();
-    let mut hints = [0u16; 4096];
+    let mut hints = [0u16; 8192];
     lookup::note_rows(sheet, &mut hints);
     match path_counts::word_count(sheet, &hints, start, depth) {
         Size::Refused(r) => Written::Refused(r),

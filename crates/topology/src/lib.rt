@@ -183,7 +183,7 @@ pub fn validate_extensive_form_topology(sheet: &[u8]) -> Check
     if let Check::Refused(_) = opened {
         return opened;
     }
-    let mut hints = [0u16; 4096];
+    let mut hints = [0u16; 8192];
     lookup::note_rows(sheet, &mut hints);
     let targets = check_targets(sheet, &hints);
     if let Check::Refused(_) = targets {

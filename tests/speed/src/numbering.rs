@@ -66,8 +66,8 @@ fn entities(draft: &Draft) -> Vec<u32> {
     entities
 }
 
-/// The library's slots of an entity: the lookup table's, of which the longest table has two and a shorter one takes it
-/// modulo its own length, a power of two; and the repeat check's.
+/// The library's slots of an entity: the lookup table's, which a shorter table takes modulo its own length, a power of
+/// two, and the repeat check's.
 fn slots(entity: u32) -> [u64; 2] {
     let entity = u64::from(entity);
     let hint = entity + entity / 1_024 + entity / 32_768;

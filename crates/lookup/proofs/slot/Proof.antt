@@ -1,7 +1,7 @@
 -- `slot` answers the place of a hint.
 use mathlib.Core.Path.{refl}
 use borrow.Author.Needs.{needs}
-use Rattle.lookup.specs.Hints.{placeOf, folded, slotOf}
+use Rattle.lookup.specs.Hints.{folded, slotOf}
 use Rattle.lookup.proofs.slot.Statement.{statement}
 use Rattle.lookup.proofs.slot.Tie as tie
 
@@ -21,7 +21,7 @@ sub-result : tie.Need-sub-result
 sub-result c = search needs
 
 returns : tie.Need-returns
-unfolding slotOf folded placeOf
+unfolding slotOf folded
 returns c = refl
 
 pub slot-spec : {M : Type 1} → statement M
