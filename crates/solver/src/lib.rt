@@ -217,7 +217,7 @@ fn solve_32(sheet: &[u8], method: Method, start: u32, depth: usize) -> Solved
     requires { ⌜ Opens (now sheet) × (depth ≤ 64) × (rowCount (now sheet) 0 ≤ 32) × (rowCount (now sheet) 1 ≤ 32) ⌝ }
     ensures { λ r. ⌜ held r ≡ heldFor (solution-with method (gameOf (now (sheet .entry))) depth start) ⌝ }
 {
-    let mut hints = [0u16; 512];
+    let mut hints = [0u16; 1024];
     let mut links = [0u32; 64];
     let mut heads = [[0u32; 7]; 32];
     let mut payoffs = [[0.0f64; 8]; 32];

@@ -18,7 +18,7 @@ slice-aggregate-solve-in-4 : tie.Need-slice-aggregate-solve-in-4
 slice-aggregate-solve-in-4 c = refl
 
 solve-in-requires : tie.Need-solve-in-requires
-solve-in-requires c κs = let a = c .before .before .before .before .before .args in let p = c .before .before .before .before .before .pre in (p .0, p .1, lent (a .method) (a .sheet .now) 512 32 (lit< tt) (p .2) (p .3))
+solve-in-requires c κs = let a = c .before .before .before .before .before .args in let p = c .before .before .before .before .before .pre in (p .0, p .1, lent (a .method) (a .sheet .now) 1024 32 (lit< tt) (p .2) (p .3))
 
 returns : tie.Need-returns
 returns c = c .before .before .before .before .solve-in .ensures
