@@ -79,7 +79,7 @@ kgs_written kgs_paths(const uint8_t *sheet, size_t len, uint32_t start, uint64_t
  */
 kgs_written kgs_sets(const uint8_t *sheet, size_t len, uint64_t *out, size_t out_len);
 
-/* Checks the tree that the child rows make from the sheet's root. Returns its first fault. Stack: 320 KB. */
+/* Checks the tree that the child rows make from the sheet's root. Returns its first fault. Stack: 384 KB. */
 kgs_refusal kgs_topology(const uint8_t *sheet, size_t len);
 
 /*
