@@ -1,5 +1,5 @@
 -- A table of hints: a hint stands within it, what is noted stays noted when more is, and an entity without a hint has no row.
-use Prim.Native.Nat.{ℕ, _+_, _-_, _*_, _<_}
+use Prim.Native.Nat.{ℕ, _+_, _-_, _*_, _<_, _≤_}
 use mathlib.Core.Path.{_≡_, refl}
 use mathlib.Core.Bool.{Bool, true, false}
 use mathlib.Core.List.{List}
@@ -10,11 +10,12 @@ use lib.Bits.{and-le-r}
 use lib.Dec.{eqb, ltb}
 use lib.ListN.{length, getD, set, length-set}
 use lib.Seq.{getD-set-same, getD-set-other}
-use Rattle.rows.specs.Rows.{findRow, entityAt}
+use Rattle.rows.specs.Rows.{rowsIn, findRow, entityAt, Distinct}
 use Rattle.rows.proofs.RowLaws.{not-named}
 use Rattle.layout.specs.Layout.{width, section, rowCount, field}
-use Rattle.opening.specs.SheetFault.{hasEntity}
-use Rattle.opening.proofs.AcceptedRows.{left-true}
+use Rattle.opening.specs.SheetFault.{hasEntity, sheetFault}
+use Rattle.opening.proofs.RowWidths.{entity-width, width-most}
+use Rattle.opening.proofs.AcceptedRows.{left-true, entity-section, not-repeated}
 use Rattle.lookup.specs.Hints.{lookedUp, folded, slotOf, hintOf, StillNoted, Noted}
 
 pub slot-within : (n k e : ℕ) → 0 < n → slotOf n k e < n
@@ -62,3 +63,12 @@ module _ (k : ℕ) (looked : lookedUp k ≡ true) where
       not-named (width s k) (section s k) (rowCount s k) e λ i l q.
       let h = rw (q, p) at (noted-at s hints noted i l) in
       omega (arith, h)
+
+-- ---- the rows of a section that is looked up, in a sheet that opens
+module _ (s : List ℕ) (k : ℕ) (opens : sheetFault s ≡ none) (looked : lookedUp k ≡ true) where
+  pub looked-wide : (4 ≤ width s k) × (width s k ≤ 32)
+  looked-wide = let e = looked-entity k looked in let n = entity-section k e in (entity-width s k n e, width-most s k n)
+
+  pub looked-distinct : Distinct (width s k) (section s k) (rowsIn (width s k) (section s k))
+  unfolding rowCount
+  looked-distinct = not-repeated s opens k (looked-entity k looked)

@@ -6,25 +6,18 @@ use Rattle.rows.specs.Rows.{rowsIn, Distinct}
 use Rattle.rows.proofs.RowLaws.{find-one}
 use Rattle.layout.specs.Layout.{rowCount}
 use Rattle.layout.proofs.LayoutLaws.{size-least}
-use Rattle.opening.proofs.RowWidths.{entity-width, width-most}
-use Rattle.opening.proofs.AcceptedRows.{entity-section, layout-ok, not-repeated}
-use Rattle.lookup.proofs.HintLaws.{looked-entity}
+use Rattle.opening.proofs.AcceptedRows.{entity-section, layout-ok}
+use Rattle.lookup.proofs.HintLaws.{looked-entity, looked-wide, looked-distinct}
 use Rattle.lookup.proofs.find_row_near.Statement.{statement}
 use Rattle.lookup.proofs.find_row_near.Tie as tie
 
 -- what is known of the section's rows
 module _ (c : tie.After-width-of) where
   wide : (4 ≤ c .width-of .result) × (c .width-of .result ≤ 32)
-  wide =
-      let e = looked-entity _ (c .before .before .before .before .pre .1) in
-      let k = entity-section _ e in
-      rw (c .width-of .ensures) (entity-width _ _ k e, width-most _ _ k)
+  wide = let p = c .before .before .before .before .pre in rw (c .width-of .ensures) (looked-wide _ _ (p .0 .opens) (p .1))
 
   distinct : Distinct (c .width-of .result) (now (c .before .section-of .result)) (rowsIn (c .width-of .result) (now (c .before .section-of .result)))
-  unfolding rowCount
-  distinct =
-      let p = c .before .before .before .before .pre in
-      rw (c .width-of .ensures, c .before .section-of .ensures) (not-repeated _ (p .0 .opens) _ (looked-entity _ (p .1)))
+  distinct = let p = c .before .before .before .before .pre in rw (c .width-of .ensures, c .before .section-of .ensures) (looked-distinct _ _ (p .0 .opens) (p .1))
 
 section-of-requires : tie.Need-section-of-requires
 section-of-requires c κs = let p = c .before .before .pre in (entity-section _ (looked-entity _ (p .1)), layout-ok _ (p .0 .opens))
