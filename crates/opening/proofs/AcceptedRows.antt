@@ -1,7 +1,7 @@
 -- In a sheet that opens the layout and every row pass, and no entity stands twice in a section.
 use Prim.Native.Nat.{ℕ, _+_, _%_, _<_}
-use mathlib.Core.Path.{_≡_, refl, sym, _∙_, subst}
-use mathlib.Core.Bool.{Bool, true, false, _&&_, false≢true}
+use mathlib.Core.Path.{_≡_, sym, _∙_, subst}
+use mathlib.Core.Bool.{true}
 use mathlib.Core.List.{List}
 use mathlib.Core.Option.{none}
 use native.Mathlib.Omega.{arith}
@@ -9,19 +9,15 @@ use borrow.Author.Tests.{ltb-true}
 use lib.Dec.{ltb}
 use Rattle.answer.proofs.FaultLaws.{▹-left, ▹-right, first-at, given-none}
 use Rattle.rows.specs.Rows.{Distinct}
-use Rattle.rows.proofs.RowLaws.{no-repeats}
+use Rattle.rows.proofs.RowLaws.{and-true, no-repeats}
 use Rattle.layout.specs.Layout.{width, layoutFault, section, rowCount, field}
 use Rattle.opening.specs.Faults.{fieldsFault}
 use Rattle.opening.specs.SheetFault.{hasEntity, rowFault, totalFault, rowsFault, sheetFault}
 use Rattle.opening.proofs.CheckOrder.{in-turn}
 
-pub left-true : (a b : Bool) → a && b ≡ true → a ≡ true
-left-true true b e = refl
-left-true false b e = absurd (false≢true e)
-
 pub entity-section : (k : ℕ) → hasEntity k ≡ true → k < 10
 unfolding hasEntity
-entity-section k e = omega (arith, ltb-true k 8 (left-true (ltb k 8) _ e))
+entity-section k e = omega (arith, ltb-true k 8 (and-true (ltb k 8) _ e .0))
 
 module _ (s : List ℕ) (ok : sheetFault s ≡ none) where
   pub layout-ok : layoutFault s ≡ none

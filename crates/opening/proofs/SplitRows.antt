@@ -16,7 +16,7 @@ use Rattle.layout.proofs.Sections.{each-section}
 use Rattle.layout.proofs.LayoutLaws.{rows-most}
 use Rattle.opening.specs.Faults.{fieldsFault}
 use Rattle.opening.specs.SheetFault.{hasEntity, rowFault, Unrepeated}
-use Rattle.opening.proofs.RowWidths.{entity-width}
+use Rattle.opening.proofs.RowWidths.{entity-width, width-most}
 
 -- ---- the first repeated row of a section
 -- a section that names entities has few rows
@@ -37,9 +37,9 @@ entity-limit =
 
 module _ (s : List ℕ) (k : ℕ) where
   -- what `first_repeated` asks of the section's width and bytes
-  pub entity-asked : {w : ℕ} {rows : List ℕ} → k < 10 → layoutFault s ≡ none → hasEntity k ≡ true → w ≡ width s k → rows ≡ section s k → (4 ≤ w) × (rowsIn w rows ≤ 1024)
+  pub entity-asked : {w : ℕ} {rows : List ℕ} → k < 10 → layoutFault s ≡ none → hasEntity k ≡ true → w ≡ width s k → rows ≡ section s k → (4 ≤ w) × (w ≤ 32) × (rowsIn w rows ≤ 1024)
   unfolding rowCount
-  entity-asked l ok e p q = rw (p, q) (entity-width s k l e, omega (arith, rows-most s ok k l, entity-limit k l e))
+  entity-asked l ok e p q = rw (p, q) (entity-width s k l e, width-most s k l, omega (arith, rows-most s ok k l, entity-limit k l e))
 
   pub no-entities : hasEntity k ≡ false → Unrepeated s k (rowCount s k)
   no-entities e = record { within = omega arith; new = λ i h. rw e; repeats = λ h. absurd (omega arith) }

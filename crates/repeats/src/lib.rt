@@ -1,10 +1,11 @@
-// Whether a row names an earlier row's entity. Rows in order are told by the bounds of the entities so far, and others are compared
-// with the earlier rows of the same slot.
+// Whether a row names an earlier row's entity. Rows in order are told by the bounds of the entities so far, and others by an index of them.
 ghost use mathlib.Core.Path.{_≡_};
 ghost use mathlib.Core.Bool.{true, false};
 ghost use Prim.Native.Nat.{_+_, _≤_, _<_};
+ghost use lib.ListN.{length};
 ghost use Rattle.rows.specs.Rows.{rowsIn, findRow, isSome, repeated, Distinct};
-ghost use Rattle.repeats.specs.Repeats.{Within, slotOf, Slotted, FirstRepeated};
+ghost use Rattle.row_index.specs.RowIndex.{NotedTo};
+ghost use Rattle.repeats.specs.Repeats.{Within, FirstRepeated};
 use rows::Found;
 use rows::field;
 
@@ -87,71 +88,60 @@ fn is_named(rows: &[u8], w: usize, n: usize, entity: u32) -> bool
     }
 }
 
-fn slot(entity: u32) -> usize
-    ensures { λ r. ⌜ (r ≡ slotOf entity) × (r < 1024) ⌝ }
+// Notes row i, and answers whether an earlier row names its entity. Without a hint none does, and else the earlier rows are searched.
+fn is_repeated(rows: &[u8], w: usize, hints: &mut [u16], i: usize) -> bool
+    requires { ⌜ (i < rowsIn w (now rows)) × (i < 1024) × (4 ≤ w) × (w ≤ 32) × (0 < length (now hints)) × NotedTo w (now rows) 1 0 i (now hints) ⌝ }
+    ensures { λ r. ⌜ (r ≡ repeated w (now (rows .entry)) i) × NotedTo w (now (rows .entry)) 1 0 (i + 1) (now (hints .exit)) ⌝ }
 {
-    let e = entity as usize;
-    (e + e / 1024 + e / 1048576) % 1024
-}
-
-// Whether an earlier row names row i's entity: only those in its slot can, and they are met from the last to the first. A slot of many
-// rows is left to a search through all earlier rows, which goes faster from row to row.
-fn is_among(rows: &[u8], w: usize, i: usize, lasts: &[u16], befores: &[u16]) -> bool
-    requires { ⌜ (i < rowsIn w (now rows)) × (4 ≤ w) × Slotted w (now rows) i (now lasts) (now befores) ⌝ }
-    ensures { λ r. ⌜ r ≡ repeated w (now (rows .entry)) i ⌝ }
-{
-    let e = field(rows, w, i, 0);
-    let mut p = lasts[slot(e)] as usize;
-    let mut met = 0usize;
-    while 0 < p {
-        if field(rows, w, p - 1, 0) == e {
-            return true;
-        }
-        if met == 16 {
-            return is_named(rows, w, i, e);
-        }
-        met += 1;
-        p = befores[p - 1] as usize;
+    if !row_index::note(rows, w, hints, 1, 0, i) {
+        return false;
     }
-    false
+    is_named(rows, w, i, field(rows, w, i, 0))
 }
 
-// Row i becomes the last of its slot.
-fn note_row(rows: &[u8], w: usize, i: usize, lasts: &mut [u16], befores: &mut [u16])
-    requires { ⌜ (i < rowsIn w (now rows)) × (i < 1024) × (4 ≤ w) × Slotted w (now rows) i (now lasts) (now befores) ⌝ }
-    ensures { λ _. ⌜ Slotted w (now (rows .entry)) (i + 1) (now (lasts .exit)) (now (befores .exit)) ⌝ }
-{
-    let at = slot(field(rows, w, i, 0));
-    befores[i] = lasts[at];
-    lasts[at] = (i + 1) as u16;
-}
-
-// The first row that names an earlier row's entity, or n: each row is compared with the earlier ones in its slot.
-fn first_repeated_by_slot(rows: &[u8], w: usize, n: usize) -> usize
-    requires { ⌜ (n ≡ rowsIn w (now rows)) × (n ≤ 1024) × (4 ≤ w) ⌝ }
+// The first row that names an earlier row's entity, or n: each row is noted in a table that is lent.
+fn first_repeated_in(rows: &[u8], w: usize, n: usize, hints: &mut [u16]) -> usize
+    requires { ⌜ (n ≡ rowsIn w (now rows)) × (n ≤ 1024) × (4 ≤ w) × (w ≤ 32) × (0 < length (now hints)) ⌝ }
     ensures { λ r. ⌜ FirstRepeated w (now (rows .entry)) r ⌝ }
 {
-    let mut lasts = [0u16; 1024];
-    let mut befores = [0u16; 1024];
     let mut i = 0;
     while i < n {
-        if is_among(rows, w, i, &lasts, &befores) {
+        if is_repeated(rows, w, hints, i) {
             return i;
         }
-        note_row(rows, w, i, &mut lasts, &mut befores);
         i += 1;
     }
     i
 }
 
+// At most 64 rows: what is lent is small, since all of it is cleared first.
+fn first_repeated_64(rows: &[u8], w: usize, n: usize) -> usize
+    requires { ⌜ (n ≡ rowsIn w (now rows)) × (n ≤ 64) × (4 ≤ w) × (w ≤ 32) ⌝ }
+    ensures { λ r. ⌜ FirstRepeated w (now (rows .entry)) r ⌝ }
+{
+    let mut hints = [0u16; 128];
+    first_repeated_in(rows, w, n, &mut hints)
+}
+
+fn first_repeated_1024(rows: &[u8], w: usize, n: usize) -> usize
+    requires { ⌜ (n ≡ rowsIn w (now rows)) × (n ≤ 1024) × (4 ≤ w) × (w ≤ 32) ⌝ }
+    ensures { λ r. ⌜ FirstRepeated w (now (rows .entry)) r ⌝ }
+{
+    let mut hints = [0u16; 2048];
+    first_repeated_in(rows, w, n, &mut hints)
+}
+
 // The first row that names an earlier row's entity, or the number of rows where none does.
 pub fn first_repeated(rows: &[u8], w: usize) -> usize
-    requires { ⌜ (4 ≤ w) × (rowsIn w (now rows) ≤ 1024) ⌝ }
+    requires { ⌜ (4 ≤ w) × (w ≤ 32) × (rowsIn w (now rows) ≤ 1024) ⌝ }
     ensures { λ r. ⌜ FirstRepeated w (now (rows .entry)) r ⌝ }
 {
     let n = rows::count(rows, w);
     if ordered(rows, w, n) == n {
         return n;
     }
-    first_repeated_by_slot(rows, w, n)
+    if n <= 64 {
+        return first_repeated_64(rows, w, n);
+    }
+    first_repeated_1024(rows, w, n)
 }

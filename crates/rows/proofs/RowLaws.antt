@@ -2,15 +2,15 @@
 use Prim.Native.Nat.{ℕ, suc, _+_, _-_, _*_, _/_, _≤_, _<_}
 use mathlib.Core.Path.{_≡_, refl, sym, ap, _∙_}
 use mathlib.Core.List.{List}
-use mathlib.Core.Bool.{false, true≢false}
+use mathlib.Core.Bool.{Bool, true, false, true≢false, false≢true, _&&_}
 use mathlib.Core.Option.{Option, none, some}
 use native.Mathlib.Nat.{le-div-iff-mul-le, mul-le-mul-left, mul-div-le, mul-suc, mul-comm, le-antisymm}
 use native.Mathlib.Omega.{arith}
-use borrow.Author.Tests.{ne-eqb, eq-eqb, eqb-true, eqb-false}
+use borrow.Author.Tests.{ltb-true, lt-ltb, ne-eqb, eq-eqb, eqb-true, eqb-false}
 use lib.ListN.{length}
-use lib.Dec.{eqb}
+use lib.Dec.{eqb, ltb}
 use Rattle.answer.proofs.FaultLaws.{first-zero, first-more, first-stop, first-none, first-at, first-found, given-true, given-false, given-none, given-some}
-use Rattle.rows.specs.Rows.{rowsIn, entityAt, findRow, isSome, repeated, Distinct}
+use Rattle.rows.specs.Rows.{rowsIn, entityAt, namedBy, findRow, isSome, repeated, Distinct}
 
 -- row i of whole rows of w bytes ends within the bytes
 pub row-fits : (w : ℕ) (rows : List ℕ) (i : ℕ) → i < rowsIn w rows → w * i + w ≤ length rows
@@ -31,6 +31,31 @@ rows-here w rows n wide there h =
 
 pub rows-past : (w : ℕ) (rows : List ℕ) (n : ℕ) → 0 < n → length rows < n * w → n - 1 < rowsIn w rows → ⊥
 rows-past w rows n there h l = omega (arith, row-fits w rows (n - 1) l, last-ends w n there)
+
+pub and-true : (a b : Bool) → a && b ≡ true → (a ≡ true) × (b ≡ true)
+and-true true b e = (refl, e)
+and-true false b e = absurd (false≢true e)
+
+-- a row names an entity where it is there and begins with it
+module _ (w : ℕ) (rows : List ℕ) (e i : ℕ) where
+  pub named-there : namedBy w rows e i ≡ true → (i < rowsIn w rows) × (entityAt w rows i ≡ e)
+  unfolding namedBy
+  named-there p = let h = and-true (ltb i (rowsIn w rows)) (eqb (entityAt w rows i) e) p in (ltb-true i (rowsIn w rows) (h .0), eqb-true (entityAt w rows i) e (h .1))
+
+  pub named-by : i < rowsIn w rows → namedBy w rows e i ≡ eqb (entityAt w rows i) e
+  unfolding namedBy
+  named-by l = rw (lt-ltb i (rowsIn w rows) l)
+
+  pub names-own : i < rowsIn w rows → entityAt w rows i ≡ e → namedBy w rows e i ≡ true
+  names-own l q = named-by l ∙ eq-eqb (entityAt w rows i) e q
+
+  pub not-there : (i < rowsIn w rows → ⊥) → namedBy w rows e i ≡ false
+  unfolding namedBy
+  not-there h = go (ltb i (rowsIn w rows)) refl
+    where
+      go : (b : Bool) → ltb i (rowsIn w rows) ≡ b → ltb i (rowsIn w rows) && eqb (entityAt w rows i) e ≡ false
+      go true q = absurd (h (ltb-true i (rowsIn w rows) q))
+      go false q = rw q
 
 -- the next turn of a search, its end at a row, and its end without one
 module _ (w : ℕ) (rows : List ℕ) (e i : ℕ) (sofar : findRow w rows i e ≡ none) where

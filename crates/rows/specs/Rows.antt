@@ -2,10 +2,10 @@
 use Prim.Native.Nat.{ℕ, _+_, _*_, _/_, _<_}
 use mathlib.Core.Path.{_≡_}
 use mathlib.Core.List.{List}
-use mathlib.Core.Bool.{Bool, true, false}
+use mathlib.Core.Bool.{Bool, true, false, _&&_}
 use mathlib.Core.Option.{Option, none, some}
 use lib.ListN.{length}
-use lib.Dec.{eqb}
+use lib.Dec.{eqb, ltb}
 use Rattle.little_endian.specs.LittleEndian.{littleEndian}
 use Rattle.answer.specs.Fault.{first, given}
 use Rattle.rows.specs.declared.Found.{Found}
@@ -26,9 +26,9 @@ u64Field w rows i f = littleEndian 8 rows (w * i + f)
 abbrev pub entityAt : ℕ → List ℕ → ℕ → ℕ
 entityAt w rows i = u32Field w rows i 0
 
--- row i is there and names the entity e
-abbrev pub NamedBy : ℕ → List ℕ → ℕ → ℕ → Type 0
-NamedBy w rows e i = (i < rowsIn w rows) × (entityAt w rows i ≡ e)
+-- whether row i is there and names the entity e
+unfoldable pub namedBy : ℕ → List ℕ → ℕ → ℕ → Bool
+namedBy w rows e i = ltb i (rowsIn w rows) && eqb (entityAt w rows i) e
 
 -- the first of n rows that names the entity e
 unfoldable pub findRow : ℕ → List ℕ → ℕ → ℕ → Option ℕ

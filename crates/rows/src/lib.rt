@@ -1,8 +1,7 @@
 // Rows of any width in a slice of bytes.
 ghost use mathlib.Core.Path.{_≡_};
-ghost use mathlib.Core.Bool.{true};
 ghost use Prim.Native.Nat.{_+_, _-_, _*_, _≤_, _<_};
-ghost use Rattle.rows.specs.Rows.{rowsIn, u32Field, u64Field, NamedBy, findRow, foundAt, Distinct};
+ghost use Rattle.rows.specs.Rows.{rowsIn, u32Field, u64Field, namedBy, findRow, foundAt, Distinct};
 
 pub enum Found {
     At(usize),
@@ -51,7 +50,7 @@ pub fn find_row(rows: &[u8], w: usize, n: usize, entity: u32) -> Found
 // Whether there are n rows and the last of these names the entity; it takes no division.
 pub fn names(rows: &[u8], w: usize, n: usize, entity: u32) -> bool
     requires { ⌜ (0 < n) × (n ≤ 65536) × (4 ≤ w) × (w ≤ 32) ⌝ }
-    ensures { λ r. ⌜ (r ≡ true → NamedBy w (now (rows .entry)) entity (n - 1)) × (NamedBy w (now (rows .entry)) entity (n - 1) → r ≡ true) ⌝ }
+    ensures { λ r. ⌜ r ≡ namedBy w (now (rows .entry)) entity (n - 1) ⌝ }
 {
     let end = n * w;
     if rows.len() < end {

@@ -3,7 +3,7 @@
 use crate::answer::Call;
 use crate::bench::{Bench, Done, Named};
 use crate::draft::Draft;
-use crate::numbering::{in_one_slot, renumbered, NATURAL};
+use crate::numbering::{crowded, is_short, renumbered, NATURAL};
 use crate::report::{table, NOT_REACHED};
 use crate::sheets::*;
 use crate::tables::{most, COLUMNS, PATHS, PLAIN, SOLVE};
@@ -16,6 +16,7 @@ pub fn limits(bench: &mut Bench) -> Done<()> {
     not_reached(bench)
 }
 
+const ADVERSARY: &str = "an adversary's numbering";
 const OUTCOMES: &str = "1,024 outcomes to one terminal";
 
 /// A node with 1,024 edges to one terminal.
@@ -47,19 +48,21 @@ fn largest(bench: &mut Bench) -> Done<()> {
     Ok(())
 }
 
-/// Entities that do not go up by one, in numberings that a caller may well have. The library's table of lookups has
-/// three sizes, and each has a sheet here.
+/// Entities that do not go up by one, in numberings that a caller may well have, and an adversary's where the table is
+/// not the shortest. The library's table of hints has three sizes, and each has a sheet here.
 fn numbered_otherwise(bench: &mut Bench) -> Done<()> {
     let sheets = [
         ("binary tree of 5 levels", full_tree(5, 2, Kinds::Decisions)),
+        ("30 replies", full_tree(2, 30, Kinds::Decisions)),
         ("binary tree of 9 levels", full_tree(9, 2, Kinds::Decisions)),
         ("1,000 replies", full_tree(2, 1_000, Kinds::Decisions)),
         ("a line of 63 decisions", made(|maker| maker.chain(63, 1, Kinds::Decisions))),
     ];
     table("Entities numbered in other ways", COLUMNS);
     for (name, draft) in sheets {
-        for (numbers, number) in NATURAL {
-            let draft = renumbered(draft.clone(), number);
+        let natural = NATURAL.map(|(numbers, number)| (numbers, renumbered(draft.clone(), number)));
+        let chosen = (!is_short(&draft)).then(|| (ADVERSARY, crowded(draft)));
+        for (numbers, draft) in natural.into_iter().chain(chosen) {
             for (order, said) in [(Order::Rising, "rising"), (Order::Shuffled, "shuffled")] {
                 let named = Named::of(format!("{name}, {numbers}, rows {said}"), arranged(draft.clone(), order));
                 bench.ratio(&named, &Call::Solve { start: named.root(), limit: 64 }, most(&named))?;
@@ -71,19 +74,15 @@ fn numbered_otherwise(bench: &mut Bench) -> Done<()> {
 
 /// Sheets that are held to no ratio, and why it is not reached.
 fn not_reached(bench: &mut Bench) -> Done<()> {
-    let crowded = |name, draft| {
-        let name = format!("{name}, an adversary's numbering, rows shuffled");
-        Named::of(name, in_one_slot(arranged(draft, Order::Shuffled)))
-    };
     let fixed = "Most of the time is the same for any sheet: tables are cleared, the answer is copied.";
+    let places = "Entities share the places at which a search looks, and then it goes over the rows one by one.";
+    let small = crowded(arranged(full_tree(5, 2, Kinds::Decisions), Order::Shuffled));
     let two_nodes = "Opening reads every byte, and the Rust's solve visits two nodes.";
     let refused = "Opening reads every byte, and the Rust's solve is refused at the root.";
-    let one_slot = "All share one slot: opening compares each row with those above it, and lookups end in scans.";
     let solved = [
         (Named::new("01's small sheet", fs::read("samples/worked.kgs")?), fixed),
+        (Named::of(format!("binary tree of 5 levels, {ADVERSARY}, rows shuffled"), small), places),
         (Named::of("1,023 nodes in sets, one edge from the root", sets_of(1_023, 1, 1_023, 2, 2_000)), two_nodes),
-        (crowded("1,000 replies", full_tree(2, 1_000, Kinds::Decisions)), one_slot),
-        (crowded("binary tree of 9 levels", full_tree(9, 2, Kinds::Decisions)), one_slot),
     ];
     let mut columns = COLUMNS;
     columns[7] = "why";

@@ -17,8 +17,10 @@ const NAMED: [(usize, &[usize]); 7] = [
 ];
 
 /// Numberings that a caller may well have.
-pub const NATURAL: [(&str, fn(u32) -> u32); 4] = [
+pub const NATURAL: [(&str, fn(u32) -> u32); 6] = [
     ("entities times 10", |entity| entity * 10),
+    ("entities times 64", |entity| entity * 64),
+    ("entities times 128", |entity| entity * 128),
     ("entities times 1,000", |entity| entity * 1_000),
     ("entities times 65,536", times_65_536),
     ("entities scattered", scattered),
@@ -66,35 +68,102 @@ fn entities(draft: &Draft) -> Vec<u32> {
     entities
 }
 
-/// The library's slots of an entity: the lookup table's, which a shorter table takes modulo its own length, a power of
-/// two, and the repeat check's.
-fn slots(entity: u32) -> [u64; 2] {
-    let entity = u64::from(entity);
-    let hint = entity + entity / 1_024 + entity / 32_768;
-    let repeat = entity + entity / 1_024 + entity / 1_048_576;
-    [hint % 2_048, repeat % 1_024]
+/// The library's tables of hints.
+#[derive(Clone, Copy)]
+enum Table {
+    Short,
+    Long,
 }
 
-/// The most entities that share both slots, the first of which is 0, rising: about two thousand.
-static CROWD: LazyLock<Vec<u32>> = LazyLock::new(|| {
-    // of the 1,024 entities with the same quotient by 1,024, at most one has the first slot 0
-    let low = |high: u32| (2_048 - (1_025 * u64::from(high) + u64::from(high / 32)) % 2_048) as u32 % 2_048;
-    let mut crowds = vec![Vec::new(); 1_024];
-    for high in (0..1 << 22).filter(|&high| low(high) < 1_024) {
-        let entity = 1_024 * high + low(high);
-        crowds[slots(entity)[1] as usize].push(entity);
-    }
-    crowds.into_iter().max_by_key(Vec::len).expect("a slot")
-});
+const FACTOR: u32 = 2_654_435_769;
 
-/// The same rows with entities, in the order they had, that share one slot of every table: an adversary's numbering.
-pub fn in_one_slot(draft: Draft) -> Draft {
+/// The number that comes after another one.
+fn mixed(number: u32) -> u32 {
+    number.wrapping_mul(FACTOR)
+}
+
+/// The number that comes before.
+fn unmixed(number: u32) -> u32 {
+    // each round doubles how many of the lowest digits of the product with the factor are those of 1
+    let inverse =
+        (0..5).fold(FACTOR, |inverse, _| inverse.wrapping_mul(2u32.wrapping_sub(FACTOR.wrapping_mul(inverse))));
+    number.wrapping_mul(inverse)
+}
+
+impl Table {
+    /// How many binary digits tell a place in the longest such table: others take it modulo a lower power of two.
+    fn digits(self) -> u32 {
+        match self {
+            Table::Short => 7,
+            Table::Long => 11,
+        }
+    }
+
+    /// An entity's first place.
+    fn first(self, entity: u32) -> u64 {
+        let number = u64::from(entity);
+        let folded = number + number / 1_024 + number / 32_768;
+        match self {
+            Table::Short => (folded + number / 32) % 128,
+            Table::Long => folded % 2_048,
+        }
+    }
+
+    /// The place by a number.
+    fn place(self, number: u32) -> u32 {
+        number >> (32 - self.digits())
+    }
+
+    /// Entities with first place 0 and few second and third places, those with the lowest fourth places first: as many
+    /// as there are in a short table, and more than a sheet may have in a long one.
+    fn crowd(self) -> Vec<u32> {
+        let few: u32 = match self {
+            Table::Short => 1,
+            Table::Long => 80,
+        };
+        let second = (0..few << (32 - self.digits())).filter(|&number| self.place(mixed(number)) < few);
+        let mut crowd: Vec<u32> = second.map(unmixed).filter(|&entity| self.first(entity) == 0).collect();
+        crowd.sort_unstable_by_key(|&entity| mixed(mixed(mixed(entity))));
+        crowd
+    }
+}
+
+static SHORT: LazyLock<Vec<u32>> = LazyLock::new(|| Table::Short.crowd());
+static LONG: LazyLock<Vec<u32>> = LazyLock::new(|| Table::Long.crowd());
+
+/// How many rows there may be for a short table: of nodes and child rows to solve, and of a section to open.
+const SOLVED: usize = 32;
+const OPENED: usize = 64;
+
+fn is_within(draft: &Draft, most: usize) -> bool {
+    draft.sections[NODES].len().max(draft.sections[CHILDREN].len()) <= most
+}
+
+/// Whether a sheet is solved with a short table.
+pub fn is_short(draft: &Draft) -> bool {
+    is_within(draft, SOLVED)
+}
+
+/// The same rows with entities that share their places when the sheet is solved: an adversary's numbering.
+pub fn crowded(draft: Draft) -> Draft {
+    let short = is_short(&draft);
+    renumbered_from(draft, if short { &SHORT } else { &LONG })
+}
+
+/// The same for opening, of a sheet with alike many rows in every section.
+pub fn crowded_to_open(draft: Draft) -> Draft {
+    let short = is_within(&draft, OPENED);
+    renumbered_from(draft, if short { &SHORT } else { &LONG })
+}
+
+/// The same rows with the first entities of a crowd, in the order that their own had.
+fn renumbered_from(draft: Draft, crowd: &[u32]) -> Draft {
     let before = entities(&draft);
-    assert!(before.len() <= CROWD.len(), "enough entities share a slot");
+    assert!(before.len() <= crowd.len(), "enough entities share their places");
+    let mut chosen = crowd[..before.len()].to_vec();
+    chosen.sort_unstable();
     let place = |entity: u32| before.binary_search(&entity).expect("an entity of the sheet");
-    let crowded = renumbered(draft, |entity| CROWD[place(entity)]);
-    let after = entities(&crowded);
-    assert_eq!(before.len(), after.len(), "entities that differ still do");
-    assert!(after.iter().all(|&entity| slots(entity) == slots(after[0])), "all entities share their slots");
+    let crowded = renumbered(draft, |entity| chosen[place(entity)]);
+    assert_eq!(before.len(), entities(&crowded).len(), "entities that differ still do");
     crowded
 }

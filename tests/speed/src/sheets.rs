@@ -1,6 +1,6 @@
 //! The shapes of the sheets that are timed.
 
-use crate::draft::{field, row, Draft};
+use crate::draft::{field, row, set_field, Draft};
 use crate::random::Random;
 use crate::sheet::*;
 
@@ -189,10 +189,9 @@ pub fn fault_behind_paths() -> Draft {
     })
 }
 
-/// Alike many rows in every keyed section and no root, so that the topology check ends after the opening.
-pub fn no_root(bytes: usize) -> Draft {
+/// Alike many rows in every keyed section.
+pub fn keyed_rows(bytes: usize) -> Draft {
     let mut draft = made(|_| ());
-    draft.root = 0;
     let rows = (bytes - draft.encode().len()) / 92;
     for number in 0..rows as u32 {
         let entity = 1 + 3 * number;
@@ -201,6 +200,12 @@ pub fn no_root(bytes: usize) -> Draft {
         draft.chance_row(entity, 1, entity, 0.5);
         draft.set(entity, 0, u64::from(number));
     }
+    draft
+}
+
+/// The same rows, of which the last that is read is refused, so that every call ends with the opening.
+pub fn refused_last(mut draft: Draft) -> Draft {
+    set_field(draft.sections[SETS].last_mut().expect("a set"), 4, u32::MAX);
     draft
 }
 

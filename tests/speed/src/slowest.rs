@@ -3,7 +3,7 @@
 use crate::answer::KINDS;
 use crate::bench::{Bench, Done, Named};
 use crate::draft::field;
-use crate::numbering::in_one_slot;
+use crate::numbering::crowded;
 use crate::random::Random;
 use crate::report::{grouped, number, row, table, time};
 use crate::worst::{any, calls, list, CALLS};
@@ -31,7 +31,7 @@ pub fn slowest(bench: &mut Bench) -> Done<()> {
     while start.elapsed() < bench.search {
         let draft = any(&mut Random::new(1, found));
         // one in two has an adversary's numbering
-        let (said, draft) = if found % 2 == 1 { (", all in one slot", in_one_slot(draft)) } else { ("", draft) };
+        let (said, draft) = if found % 2 == 1 { (", an adversary's numbering", crowded(draft)) } else { ("", draft) };
         sight(bench, &mut slowest, &format!("found, seed {found}{said}"), draft.encode())?;
         found += 1;
     }
@@ -40,8 +40,9 @@ pub fn slowest(bench: &mut Bench) -> Done<()> {
         print(bench, number, sheets)?;
     }
     println!(
-        "\nAmong {count} sheets that were built to be slow and {} that a search made. All in one slot is an adversary's \
-         numbering of the entities: one in four of the first and one in two of the others have it.",
+        "\nAmong {count} sheets that were built to be slow and {} that a search made. An adversary's \
+         numbering makes entities share their places in the library's tables: one in four of the first and one in two of \
+         the others have it.",
         grouped(found)
     );
     Ok(())

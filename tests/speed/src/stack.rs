@@ -27,7 +27,12 @@ pub fn cases() -> Vec<(&'static str, &'static str, Draft, Call)> {
         ("paths", "63 levels of one edge", made(|maker| maker.chain(63, 1, Kinds::Decisions)), paths),
         ("sets", "1,023 sets", sets_of(1_023, 1, 1_023, 2, 2_000), Call::Sets { room: AMPLE }),
         ("topology", "a chain of 1,024 nodes", longest_walk(), Call::Topology),
-        ("opening alone", "64 KB, rows shuffled", arranged(no_root(1 << 16), Order::Shuffled), Call::Topology),
+        (
+            "opening alone",
+            "64 KB, rows shuffled",
+            refused_last(arranged(keyed_rows(1 << 16), Order::Shuffled)),
+            Call::Topology,
+        ),
         ("Kuhn, Vanilla", "none", Draft::default(), kuhn(Variant::Vanilla)),
         ("Kuhn, CfrPlus", "none", Draft::default(), kuhn(Variant::CfrPlus)),
         ("Kuhn, LinearCfr", "none", Draft::default(), kuhn(Variant::LinearCfr)),

@@ -4,7 +4,7 @@ use crate::answer::{Call, VARIANTS};
 use crate::bench::{Bench, Done, Named};
 use crate::clock::in_turn;
 use crate::draft::Draft;
-use crate::numbering::{in_one_slot, renumbered, times_65_536};
+use crate::numbering::{crowded_to_open, renumbered, times_65_536};
 use crate::report::{grouped, number, row, table};
 use crate::sheets::*;
 use crate::worst::AMPLE;
@@ -112,16 +112,16 @@ const OPENED: [(&str, fn(Draft) -> Draft); 5] = [
     ("rows falling", |draft| arranged(draft, Order::Falling)),
     ("rows shuffled", |draft| arranged(draft, Order::Shuffled)),
     ("entities times 65,536, rows shuffled", |draft| arranged(renumbered(draft, times_65_536), Order::Shuffled)),
-    ("an adversary's numbering, rows shuffled", |draft| in_one_slot(arranged(draft, Order::Shuffled))),
+    ("an adversary's numbering, rows shuffled", |draft| crowded_to_open(arranged(draft, Order::Shuffled))),
 ];
 
-/// The opening alone: the topology check of a sheet whose root is no node ends right after it.
+/// The opening alone: a sheet whose last row is refused.
 pub fn opening(bench: &mut Bench) -> Done<()> {
-    let sizes = [1, 2, 4, 8, 16, 32, 64].map(|kilobytes| no_root(kilobytes << 10));
+    let sizes = [1, 2, 4, 8, 16, 32, 64].map(|kilobytes| keyed_rows(kilobytes << 10));
     let lengths = sizes.each_ref().map(|draft| draft.encode().len() as f64);
     let mut columns = Vec::new();
     for (said, numbered) in OPENED {
-        let sheets = sizes.each_ref().map(|draft| Named::of(said, numbered(draft.clone())));
+        let sheets = sizes.each_ref().map(|draft| Named::of(said, refused_last(numbered(draft.clone()))));
         columns.push(bench.each(&sheets, &Call::Topology)?);
     }
     let [rising, falling, shuffled, apart, adversarial] = OPENED.map(|(said, _)| said);
@@ -131,19 +131,11 @@ pub fn opening(bench: &mut Bench) -> Done<()> {
         row([grouped(*length as u64), cell(0), cell(1), cell(2), cell(3), cell(4)]);
     }
     println!("\nLinear: a byte of 64 KB takes at most twice the time of a byte of 4 KB.");
-    for (times, said) in columns.iter().zip([rising, falling, shuffled, apart, adversarial]) {
+    for (times, (said, _)) in columns.iter().zip(OPENED) {
         let growth = times[6].over(&times[2]) * lengths[2] / lengths[6];
-        let met = match said {
-            _ if said == adversarial => "no goal: an adversary's numbering",
-            _ => bench.report.goal(&format!("opening, {said}, growth per byte"), growth, 2.0),
-        };
+        let met = bench.report.goal(&format!("opening, {said}, growth per byte"), growth, 2.0);
         println!("- {said}: {} times, {met}", number(growth));
     }
-    println!(
-        "\nIn an adversary's numbering each row is compared with those above it, so that the time grows with the square: \
-         from 4 to 64 KB by {}.",
-        number(columns[4][6].over(&columns[4][2]))
-    );
     Ok(())
 }
 

@@ -2,7 +2,7 @@
 
 use crate::answer::Call;
 use crate::draft::{row, set_field, Draft};
-use crate::numbering::in_one_slot;
+use crate::numbering::crowded;
 use crate::random::Random;
 use crate::sheet::*;
 use crate::sheets::*;
@@ -25,13 +25,13 @@ pub fn calls(start: u32) -> [Call; CALLS] {
     ]
 }
 
-/// The sheets by name, each with its rows in three orders, and in no order with all entities in one slot.
+/// The sheets by name, each with its rows in three orders, and in no order in an adversary's numbering.
 pub fn list() -> Vec<(String, Vec<u8>)> {
     let mut sheets = Vec::new();
     for (name, draft) in solved().into_iter().chain(with_sets()).chain(walked_by_children()) {
-        let crowded = in_one_slot(arranged(draft.clone(), Order::Shuffled));
+        let crowded = crowded(arranged(draft.clone(), Order::Shuffled));
         let orders = ORDERS.map(|(order, said)| (arranged(draft.clone(), order), said));
-        for (draft, said) in orders.into_iter().chain([(crowded, "shuffled, all in one slot")]) {
+        for (draft, said) in orders.into_iter().chain([(crowded, "shuffled, an adversary's numbering")]) {
             let bytes = draft.encode();
             assert!(bytes.len() <= LONGEST, "{name} fits a sheet");
             sheets.push((format!("{name}, {said}"), bytes));

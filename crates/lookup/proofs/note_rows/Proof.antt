@@ -7,7 +7,7 @@ use borrow.Author.Count.{below-more}
 use lib.ListN.{length}
 use Rattle.layout.specs.Layout.{rowCount}
 use Rattle.opening.proofs.AcceptedRows.{layout-ok}
-use Rattle.lookup.specs.Hints.{lookedUp, NotedTo, NotedBelow}
+use Rattle.lookup.specs.Hints.{lookedUp, NotedIn, NotedBelow}
 use Rattle.lookup.proofs.HintLaws.{looked-up, not-looked-up}
 use Rattle.lookup.proofs.note_rows.Statement.{statement}
 use Rattle.lookup.proofs.note_rows.Tie as tie
@@ -32,7 +32,7 @@ loop-again c =
     let l = (c .before .before) .loop in (
       l .inv .0,
       omega (arith, (c .before) .loop-test .taken),
-      below-more (λ (j : ℕ). lookedUp j ≡ true → NotedTo _ j (rowCount _ j) (l .hints)) (l .k) (l .inv .2) (λ e. absurd (true≢false (sym (rw (c .if1 .taken) at e) ∙ not-looked-up))),
+      below-more (λ (j : ℕ). lookedUp j ≡ true → NotedIn _ j (rowCount _ j) (l .hints)) (l .k) (l .inv .2) (λ e. absurd (true≢false (sym (rw (c .if1 .taken) at e) ∙ not-looked-up))),
     )
 
 note-section-requires : tie.Need-note-section-requires Inv-loop μ-loop
@@ -52,8 +52,8 @@ loop-again-2 c =
     let noted = (c .before .before) .note-section in (
       noted .kept .1 .0 ∙ l .inv .0,
       omega (arith, (c .before .before .before .before .before) .loop-test .taken),
-      below-more (λ (j : ℕ). lookedUp j ≡ true → NotedTo _ j (rowCount _ j) (noted .last .1 .0)) (l .k)
-          (λ j h e i r. noted .ensures .1 _ _ (l .inv .2 j h e i r))
+      below-more (λ (j : ℕ). lookedUp j ≡ true → NotedIn _ j (rowCount _ j) (noted .last .1 .0)) (l .k)
+          (λ j h e i r. noted .ensures .1 _ _ _ _ _ (l .inv .2 j h e i r))
           (λ e. noted .ensures .0),
     )
 

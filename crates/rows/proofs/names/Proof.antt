@@ -1,13 +1,12 @@
 -- `names` answers yes exactly where the last of n rows is there and names the entity.
 use Prim.Native.Nat.{_-_, _*_, _+_}
 use mathlib.Core.Path.{_≡_, sym, ap, _∙_}
-use mathlib.Core.Bool.{false≢true}
 use native.Mathlib.Nat.{mul-le-mul}
 use native.Mathlib.Omega.{arith}
-use borrow.Author.Tests.{eqb-true, eq-eqb}
+use lib.Dec.{eqb}
 use Rattle.little_endian.specs.LittleEndian.{littleEndian}
 use Rattle.rows.specs.Rows.{u32Field, entityAt}
-use Rattle.rows.proofs.RowLaws.{last-ends, rows-here, rows-past}
+use Rattle.rows.proofs.RowLaws.{last-ends, rows-here, rows-past, named-by, not-there}
 use Rattle.rows.proofs.names.Statement.{statement}
 use Rattle.rows.proofs.names.Tie as tie
 
@@ -22,7 +21,7 @@ mul-end : tie.Need-mul-end
 mul-end c = let p = c .before .pre in omega (arith, mul-le-mul (p .1) (p .3))
 
 returns : tie.Need-returns
-returns c = let p = c .before .before .pre in (λ q. absurd (false≢true q), λ h. absurd (rows-past _ _ _ (p .0) (c .if1 .taken) (h .0)))
+returns c = sym (not-there _ _ _ _ (rows-past _ _ _ (c .before .before .pre .0) (c .if1 .taken)))
 
 sub-u32-at : tie.Need-sub-u32-at
 sub-u32-at c = let a = c .before .before .args in omega (arith, last-ends (a .w) (a .n) (c .before .before .pre .0))
@@ -33,8 +32,9 @@ u32-at-requires c κs =
 
 returns-2 : tie.Need-returns-2
 returns-2 c =
+    let a = c .before .before .before .args in
     let p = c .before .before .before .pre in
-    (λ q. (rows-here _ _ _ (p .2) (p .0) (c .before .if1 .left), sym (read c) ∙ eqb-true _ _ q), λ h. eq-eqb _ _ (read c ∙ h .1))
+    sym (named-by _ _ (a .entity) _ (rows-here _ _ _ (p .2) (p .0) (c .before .if1 .left)) ∙ ap (λ m. eqb m (a .entity)) (sym (read c)))
 
 pub names-spec : {M : Type 1} → statement M
 names-spec = tie.close (tie.spec mul-end returns sub-u32-at u32-at-requires returns-2)
