@@ -8,10 +8,10 @@ use lib.Dec.{eqb, leb}
 use lib.ListN.{length, getD}
 use Rattle.rows.specs.Rows.{rowsIn, entityAt, namedBy, Distinct}
 
--- an entity and its higher digits added up, so that entities in steps of ten, a thousand or a power of two have places apart as well as those one
--- after the other; a short table needs a digit more
+-- an entity and its higher digits to the base 32 added up, so that entities in steps of ten, a thousand or a power of two have places apart as well
+-- as those one after the other; in a long table some of the digits do better than all
 unfoldable pub folded : ℕ → ℕ → ℕ
-folded n e = e + e / 1024 + e / 32768 + cond (leb n 1024) (e / 32) 0
+folded n e = e + e / 1024 + e / 32768 + cond (leb n 1024) (e / 32 + e / 1048576 + e / 33554432) 0
 
 -- another number below 2^32: those of two such numbers differ, since the factor is odd
 unfoldable pub mixed : ℕ → ℕ

@@ -15,7 +15,7 @@ fn digit_sum(n: usize, entity: u32) -> usize
     let e = entity as usize;
     let sum = e + e / 1024 + e / 32768;
     if n <= 1024 {
-        return sum + e / 32;
+        return sum + (e / 32 + e / 1048576 + e / 33554432);
     }
     sum
 }

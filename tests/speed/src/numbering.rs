@@ -17,12 +17,13 @@ const NAMED: [(usize, &[usize]); 7] = [
 ];
 
 /// Numberings that a caller may well have.
-pub const NATURAL: [(&str, fn(u32) -> u32); 6] = [
+pub const NATURAL: [(&str, fn(u32) -> u32); 7] = [
     ("entities times 10", |entity| entity * 10),
     ("entities times 64", |entity| entity * 64),
     ("entities times 128", |entity| entity * 128),
     ("entities times 1,000", |entity| entity * 1_000),
     ("entities times 65,536", times_65_536),
+    ("entities times 1,048,576", |entity| entity * 1_048_576),
     ("entities scattered", scattered),
 ];
 
@@ -104,7 +105,7 @@ impl Table {
         let number = u64::from(entity);
         let folded = number + number / 1_024 + number / 32_768;
         match self {
-            Table::Short => (folded + number / 32) % 128,
+            Table::Short => (folded + number / 32 + number / 1_048_576 + number / 33_554_432) % 128,
             Table::Long => folded % 2_048,
         }
     }
