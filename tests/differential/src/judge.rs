@@ -6,7 +6,7 @@ use crate::reference::{depth, Game, Walked};
 use std::fmt;
 
 /// The Rust, which keeps nothing of what it has solved, is not asked for a walk of more visits.
-const MOST_VISITS: u64 = 200_000;
+const MOST_VISITS: u64 = 2_000_000;
 
 /// The greatest number of iterations that is not refused.
 const MOST_ITERATIONS: u64 = 1_000_000;
