@@ -1,11 +1,10 @@
 -- What an answer that is no refusal says of the parts that it came from: each edge was replied to, each outcome solved, and the payoffs element by element.
 use mathlib.Core.Path.{_≡_, refl, sym, subst}
-use mathlib.Core.Bool.{Bool, true, false, _&&_, cond}
+use mathlib.Core.Bool.{Bool, true, false, cond}
 use mathlib.Core.Logic.{inl, inr}
 use mathlib.Core.List.{List, [], _∷_, List·Memᴰ, List·Memᴰ·head, List·Memᴰ·tail, List·Memᴰ·cases-cons, List·Memᴰ·not-nil, zipWith}
 use mathlib.Core.Option.{Option, none, some, Option·none-ne-some, Option·some-injective}
 use Prim.Native.Nat.{ℕ, zero, suc}
-use native.Mathlib.Omega.{arith}
 use lib.ListN.{length, getElem?}
 use lib.Dec.{eqb}
 use Rattle.number.specs.Number.{Number, plus, times, isFinite}
@@ -13,6 +12,7 @@ use Rattle.answer.specs.declared.Refusal.{Refusal}
 use Rattle.answer.specs.Answer.{Answer, refused, done, _>>=_, orRefuse, unless}
 use Rattle.answer.specs.Refusals.{inconsistentChancePayoffCount}
 use Rattle.answer.proofs.AnswerLaws.{refused-not-done, done-injective, bind-done}
+use Rattle.rows.proofs.RowLaws.{and-true}
 use Rattle.game.specs.declared.ActionEdge.{ActionEdge}
 use Rattle.game.specs.Game.{Chance}
 use Rattle.backward_induction.specs.Solve.{Solution, Reply, Solver, reply, better, best, bestOf, products, added, sumsOn, sumsOf, allFinite, inRange}
@@ -28,13 +28,6 @@ pub test-done : {A P : Type 0} (b : Bool) (x y : A) (r : Refusal) → elim b [ t
 test-done true x y r e next = next refl (done-injective e)
 test-done false x y r e next = absurd (refused-not-done e)
 
-false-not-true : false ≡ true → ⊥
-false-not-true e = let z : _≡_ {A = ℕ} 0 1 = cc in omega arith
-
-both : (a b : Bool) → (a && b) ≡ true → (a ≡ true) × (b ≡ true)
-both true b e = (refl, e)
-both false b e = absurd (false-not-true e)
-
 -- ---- payoffs, element by element
 
 pub element-in : {A : Type 0} (xs : List A) (i : ℕ) (x : A) → getElem? xs i ≡ some x → List·Memᴰ x xs
@@ -46,7 +39,7 @@ pub finite-in : (vs : List Number) → allFinite vs ≡ true → (u : Number) �
 unfolding allFinite
 finite-in [] h u i = absurd (List·Memᴰ·not-nil i)
 finite-in (v ∷ vs) h u i =
-    let (here, there) = both (isFinite v) (allFinite vs) h in
+    let (here, there) = and-true (isFinite v) (allFinite vs) h in
     elim (List·Memᴰ·cases-cons i) [ inl q ↦ rw q here | inr j ↦ finite-in vs there u j ]
 
 pub product-at : {P : Type 0} (p : Number) (vs : List Number) (i : ℕ) (u : Number) → getElem? (products p vs) i ≡ some u

@@ -6,6 +6,7 @@ use mathlib.Core.List.{List}
 use mathlib.Core.Option.{none}
 use native.Mathlib.Omega.{arith}
 use borrow.Author.Count.{below-more}
+use borrow.Table.Steps.{cases}
 use borrow.Author.Tests.{ne-eqb, eqb-true, eqb-false}
 use lib.Bits.{and-le-r}
 use lib.Dec.{eqb}
@@ -14,10 +15,6 @@ use lib.Seq.{getD-set-same, getD-set-other}
 use Rattle.rows.specs.Rows.{entityAt, namedBy, findRow}
 use Rattle.rows.proofs.RowLaws.{not-named}
 use Rattle.row_index.specs.RowIndex.{folded, mixed, highest, placeBy, firstPlace, looksIn, ends, endFrom, placeOf, hintOf, NotedTo, StillNoted}
-
-by-cases : {A : Type 0} (b : Bool) → (b ≡ true → A) → (b ≡ false → A) → A
-by-cases true t f = t refl
-by-cases false t f = f refl
 
 pub place-by-within : (n lanes lane m : ℕ) → 0 < n → placeBy n lanes lane m < n
 unfolding placeBy
@@ -89,7 +86,7 @@ module _ (w : ℕ) (rows : List ℕ) (lanes lane e : ℕ) where
     unfolding endFrom
     end-within zero x p h = h
     end-within (suc looks) x p h =
-        by-cases (ends w rows e (getD hints p 0))
+        cases (ends w rows e (getD hints p 0))
         (λ q. rw (end-here hints looks x p q) h)
         (λ q. rw (end-on hints looks x p q) (end-within looks _ _ (place-by-within (length hints) lanes lane _ room)))
 
@@ -118,7 +115,7 @@ module _ (hints : List ℕ) (j v : ℕ) (here : j < length hints) (free : getD h
     unfolding endFrom
     still-from zero x p h = rw (kept p h) h
     still-from (suc looks) x p h =
-        by-cases (ends w rows e (getD hints p 0))
+        cases (ends w rows e (getD hints p 0))
         (λ q. let g : 0 < getD hints p 0 = rw (end-here w rows lanes lane e hints looks x p q) at h in
         let k = kept p g in
         rw (end-here w rows lanes lane e (set hints j v) looks x p (ap (ends w rows e) k ∙ q), k) g)
@@ -130,7 +127,7 @@ module _ (hints : List ℕ) (j v : ℕ) (here : j < length hints) (free : getD h
       unfolding endFrom
       found-from zero x p h = h
       found-from (suc looks) x p h =
-          by-cases (ends w rows e (getD hints p 0))
+          cases (ends w rows e (getD hints p 0))
           (λ q. let g : p ≡ j = rw (end-here w rows lanes lane e hints looks x p q) at h in
           let o : getD (set hints j v) p 0 ≡ v = rw (g, getD-set-same hints j v 0 here) in
           end-here w rows lanes lane e (set hints j v) looks x p (ap (ends w rows e) o ∙ ends-named w rows e v named) ∙ g)
