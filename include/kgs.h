@@ -1,8 +1,8 @@
 /*
  * The C interface of the solver: libkgs.a, built by `rt staticlib kgs`, for x86-64.
  *
- * A sheet is lent as its bytes, any bytes: what is no fit sheet is refused, by a number and up to four fields that
- * docs/REFUSALS.md puts in plain words. All of this holds for every call:
+ * A sheet is lent as its bytes (docs/SHEET.md), any bytes: what is no fit sheet is refused, by a number and up to four
+ * fields that docs/REFUSALS.md puts in plain words. All of this holds for every call:
  *
  * - No pointer is null, not even one beside a length of 0, and each is aligned for its element type.
  * - What is lent stays the caller's. The sheet is only read; a buffer `out` is only written, and shares no byte with
@@ -79,12 +79,17 @@ kgs_written kgs_paths(const uint8_t *sheet, size_t len, uint32_t start, uint64_t
  */
 kgs_written kgs_sets(const uint8_t *sheet, size_t len, uint64_t *out, size_t out_len);
 
-/* Checks the tree that the child rows make from the sheet's root. Returns its first fault. Stack: 384 KB. */
+/*
+ * Checks that the root and every target of an action or chance row are nodes, and then the tree that the child rows
+ * make from the root. Returns the first fault. Stack: 384 KB.
+ */
 kgs_refusal kgs_topology(const uint8_t *sheet, size_t len);
 
 /*
- * Kuhn poker by counterfactual regret minimization, at most 1,000,000 iterations, in three variants: regrets added up;
- * their positive part kept (CFR+); regrets weighted by the iteration's number (linear CFR). Stack: 16 KB.
+ * Kuhn poker by counterfactual regret minimization, in three variants: regrets added up; their positive part kept
+ * (CFR+); regrets weighted by the iteration's number (linear CFR). The last two also weigh each iteration's strategy by
+ * its number. Nothing is lent. Returns player 0's average value and the bet share at the first move, or the refusal of
+ * more than 1,000,000 iterations. Stack: 16 KB.
  */
 kgs_kuhn kgs_kuhn_vanilla(uint64_t iterations);
 kgs_kuhn kgs_kuhn_cfr_plus(uint64_t iterations);

@@ -13,14 +13,14 @@ use Rattle.answer.specs.Refusals.{bufferTooShort}
 unfoldable pub fitting : ℕ → List ℕ → Answer (List ℕ)
 fitting room words = unless (given (ltb room (length words)) (bufferTooShort room)) (done words)
 
-pub record Outcome : Type 0 where
+pub record Effect : Type 0 where
   pub answer : Answer ℕ
   pub buffer : List ℕ
 
 -- a refusal leaves the buffer as it was; the words stand at its start, and what stood after them stays
-unfoldable pub outcome : List ℕ → Answer (List ℕ) → Outcome
-outcome out (refused r) = record { answer = refused r; buffer = out }
-outcome out (done words) = record { answer = done (length words); buffer = words ++ drop (length words) out }
+unfoldable pub effect : List ℕ → Answer (List ℕ) → Effect
+effect out (refused r) = record { answer = refused r; buffer = out }
+effect out (done words) = record { answer = done (length words); buffer = words ++ drop (length words) out }
 
 -- what the code answers
 abbrev pub answered : Written → Answer ℕ
@@ -28,5 +28,5 @@ answered (Count n) = done n
 answered (Refused r) = refused r
 
 -- what the code answers, and the buffer at its exit
-abbrev pub leaves : Written → List ℕ → Outcome
+abbrev pub leaves : Written → List ℕ → Effect
 leaves w out = record { answer = answered w; buffer = out }

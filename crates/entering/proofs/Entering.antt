@@ -22,7 +22,7 @@ use Rattle.backward_induction.specs.declared.Method.the-variants as Methods
 use Rattle.backward_induction.specs.Solve.{Solver, taken, weighed, atKind, step, solve}
 use Rattle.backward_induction.proofs.SolveLaws.{solve-zero, solve-suc, step-missing, step-action-fault, step-decision, step-plain, step-chance-fault, step-chance, bestOf-from, sumsOf-from}
 use Rattle.memo.specs.Memo.{Rows, entry, height, known}
-use Rattle.memo.specs.Visits.{SolvedIn}
+use Rattle.memo.specs.Visiting.{SolvedIn}
 use Rattle.entering.specs.declared.Entered.the-variants as E
 use Rattle.entering.specs.Solving.{EnteredAs}
 

@@ -23,7 +23,7 @@ use Rattle.backward_induction.specs.Solve.{Solver, atKind}
 use Rattle.memo.specs.Memo.{Rows, stored}
 use Rattle.memo.specs.declared.Visit.{Visit}
 use Rattle.memo.specs.declared.Visit.the-variants as Visiting
-use Rattle.memo.specs.Visits.{KeptAs}
+use Rattle.memo.specs.Visiting.{KeptAs}
 use Rattle.turns.proofs.Overwrite.{map-take}
 
 module _ (s : List ℕ) (e row : ℕ) (t : TerminalRow) (values : List Float) (found : terminalOf (gameOf s) e ≡ some (terminalIn s t)) (few : t .count ≤ 8)

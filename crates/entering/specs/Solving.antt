@@ -19,7 +19,7 @@ use Rattle.backward_induction.specs.declared.Method.{Method}
 use Rattle.backward_induction.specs.Solve.{taken, weighed, solve}
 use Rattle.backward_induction.specs.Turns.{bestFrom, sumsFrom}
 use Rattle.memo.specs.Memo.{Rows, Memo, Extends}
-use Rattle.memo.specs.Visits.{Visited}
+use Rattle.memo.specs.Visiting.{SolvedAs}
 use Rattle.turns.specs.declared.Best.{Best}
 use Rattle.turns.specs.declared.Best.the-variants as B
 use Rattle.turns.specs.declared.Sums.{Sums}
@@ -65,7 +65,7 @@ ToWeigh method s e = (w : Sums) → Holds w none → Weighing method s e 0 0 w
 
 -- a node that is entered with so much depth left: visited, or its replies or outcomes are to be solved
 abbrev pub EnteredAs : Method → List ℕ → Rows → ℕ → ℕ → Entered → Type 0
-EnteredAs method s m left e (E.Done v) = Visited method s m left e v
+EnteredAs method s m left e (E.Done v) = SolvedAs method s m left e v
 EnteredAs method s m left e (E.Decision row p) = (0 < left) × NodeAt s row e × Deciding method s m e p 0 0 B.None
 EnteredAs method s m left e (E.Chance row) = (0 < left) × NodeAt s row e × ToWeigh method s e
 

@@ -17,7 +17,7 @@ ghost use Rattle.sheet.specs.Found.{NodeAt};
 ghost use Rattle.backward_induction.specs.declared.Method.{Method};
 ghost use Rattle.backward_induction.specs.Solve.{Solver, atKind};
 ghost use Rattle.memo.specs.Memo.{Rows, rows, Within};
-ghost use Rattle.memo.specs.Visits.{KeptAs};
+ghost use Rattle.memo.specs.Visiting.{KeptAs};
 ghost use Rattle.child_rows.specs.Links.{Linked};
 ghost use Rattle.entering.specs.Solving.{Asks, EnteredAs, Enters};
 use answer::Check;

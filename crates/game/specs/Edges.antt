@@ -31,19 +31,20 @@ module _ (g : Game) where
     unfoldable pub outgoing : ℕ → Answer (List R)
     outgoing source = collect edgeOf (childrenOf source (g .children))
 
-    -- the edge of the source that one child row gives
-    abbrev pub edgeFor : Option ℕ → Answer (Option R)
-    edgeFor none = done none
-    edgeFor (some e) = edgeOf e
-
-    unfoldable pub edgeIn : ℕ → ChildRow → Answer (Option R)
-    edgeIn source c = edgeFor (childIn source c)
-
   unfoldable pub outgoingActionEdges : ℕ → Answer (List ActionEdge)
   outgoingActionEdges source = outgoing (actionOf g) (λ a. a .target) source
 
   unfoldable pub outgoingChanceOutcomes : ℕ → Answer (List Chance)
   outgoingChanceOutcomes source = outgoing (chanceOf g) (λ c. c .target) source
+
+  -- ---- words of the contracts: the edge of the source that one child row gives
+  module _ {R : Type 0} (rowOf : ℕ → Option R) (target : R → ℕ) where
+    abbrev pub edgeFor : Option ℕ → Answer (Option R)
+    edgeFor none = done none
+    edgeFor (some e) = edgeOf rowOf target e
+
+    unfoldable pub edgeIn : ℕ → ChildRow → Answer (Option R)
+    edgeIn source c = edgeFor (childIn source c)
 
   unfoldable pub actionEdgeIn : ℕ → ChildRow → Answer (Option ActionEdge)
   actionEdgeIn source c = edgeIn (actionOf g) (λ a. a .target) source c

@@ -7,7 +7,7 @@ use Rattle.answer.specs.declared.Written.{Written}
 use Rattle.answer.specs.declared.Check.{Check}
 use Rattle.answer.specs.Fault.{Fault, faultOf}
 use Rattle.answer.specs.Answer.{Answer, done, unless, faultIn}
-use Rattle.answer.specs.Listing.{Outcome, answered, leaves}
+use Rattle.answer.specs.Listing.{Effect, answered, leaves}
 use Rattle.topology.specs.Topology.{checked}
 use Rattle.kgs.specs.declared.KgsWritten.{KgsWritten}
 use Rattle.kgs.specs.Interface.{kgsWritten, left, kgsLeft}
@@ -21,5 +21,5 @@ fault-checked v p = rw (← p) (go (faultOf v))
     go (some r) = refl
 
 -- a listing's struct and buffer, for what the call leaves
-pub left-as : {w : KgsWritten} (v : Written) {out : List ℕ} {o : Outcome} → w ≡ kgsWritten (answered v) → leaves v out ≡ o → left w out ≡ kgsLeft o
+pub left-as : {w : KgsWritten} (v : Written) {out : List ℕ} {o : Effect} → w ≡ kgsWritten (answered v) → leaves v out ≡ o → left w out ≡ kgsLeft o
 left-as v p q = rw (p, ← q)

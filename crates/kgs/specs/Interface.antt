@@ -6,7 +6,7 @@ use Rattle.number.specs.Number.{Number}
 use Rattle.number.specs.Meaning.{meaning}
 use Rattle.answer.specs.Fault.{Fault}
 use Rattle.answer.specs.Answer.{Answer, refused, done}
-use Rattle.answer.specs.Listing.{Outcome}
+use Rattle.answer.specs.Listing.{Effect}
 use Rattle.solver.specs.Held.{Held}
 use Rattle.kuhn.specs.declared.KuhnValue.{KuhnValue}
 use Rattle.kuhn_poker.specs.Binary64 as Binary64
@@ -80,7 +80,7 @@ kgsWritten (done n) = record { refusal = kgsRefusal none; count = n }
 abbrev pub left : KgsWritten → List ℕ → Left
 left w out = record { written = w; buffer = out }
 
-abbrev pub kgsLeft : Outcome → Left
+abbrev pub kgsLeft : Effect → Left
 kgsLeft o = left (kgsWritten (o .answer)) (o .buffer)
 
 -- ---- kgs_kuhn

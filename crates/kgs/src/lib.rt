@@ -4,7 +4,7 @@ ghost use mathlib.Core.Option.{none, some};
 ghost use lib.ListN.{length};
 ghost use Rattle.answer.specs.Fault.{faultOf};
 ghost use Rattle.answer.specs.Answer.{faultIn};
-ghost use Rattle.answer.specs.Listing.{outcome, answered};
+ghost use Rattle.answer.specs.Listing.{effect, answered};
 ghost use Rattle.backward_induction.specs.Call.{solution};
 ghost use Rattle.backward_induction.specs.declared.Method.the-variants.{ChanceWeighted, Plain};
 ghost use Rattle.solver.specs.Held.{endingOf, held, heldFor};
@@ -172,14 +172,14 @@ pub extern "C" fn kgs_solve_plain(sheet: &[u8], start: u32, limit: u64) -> KgsSo
 
 #[no_mangle]
 pub extern "C" fn kgs_paths(sheet: &[u8], start: u32, limit: u64, out: &mut [u64]) -> KgsWritten
-    ensures { λ r. ⌜ left r (now (out .exit)) ≡ kgsLeft (outcome (now (out .entry)) (pathListing (now (sheet .entry)) start limit (length (now (out .entry))))) ⌝ }
+    ensures { λ r. ⌜ left r (now (out .exit)) ≡ kgsLeft (effect (now (out .entry)) (pathListing (now (sheet .entry)) start limit (length (now (out .entry))))) ⌝ }
 {
     written_of(paths::paths(sheet, start, limit, out))
 }
 
 #[no_mangle]
 pub extern "C" fn kgs_sets(sheet: &[u8], out: &mut [u64]) -> KgsWritten
-    ensures { λ r. ⌜ left r (now (out .exit)) ≡ kgsLeft (outcome (now (out .entry)) (setListing (now (sheet .entry)) (length (now (out .entry))))) ⌝ }
+    ensures { λ r. ⌜ left r (now (out .exit)) ≡ kgsLeft (effect (now (out .entry)) (setListing (now (sheet .entry)) (length (now (out .entry))))) ⌝ }
 {
     written_of(information_sets::information_sets(sheet, out))
 }

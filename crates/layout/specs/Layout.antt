@@ -1,4 +1,4 @@
--- The layout of a sheet: 92 bytes of header, then sections 0 to 9 one after the other. A sheet is its list of bytes. Definitions only.
+-- The layout of a sheet: 92 bytes of header, then sections 0 to 9 one after the other. A sheet, 01's word for the file of a game, is its list of bytes. Definitions only.
 --   header: mark (4 bytes), u16 edition, u16 zero, u32 root, then for each section u32 offset and u32 length, both in bytes
 --   sections: 0 nodes, 1 children, 2 actions, 3 chances, 4 transitions, 5 terminals, 6 payoffs, 7 sets, 8 labels, 9 text
 use Prim.Native.Nat.{ℕ, _+_, _-_, _*_, _/_, _%_}
@@ -11,7 +11,7 @@ use Rattle.rows.specs.Rows.{rowsIn, u32Field, u64Field}
 use Rattle.answer.specs.Fault.{Fault, first, given, _▹_}
 use Rattle.answer.specs.Refusals.{badSize, wrongMark, wrongEdition, badSection}
 
--- bytes in a row of section k
+-- bytes in a row of section k, the same in every sheet of edition 1
 unfoldable pub width : List ℕ → ℕ → ℕ
 width s k = getD (12 ∷ 8 ∷ 12 ∷ 20 ∷ 8 ∷ 8 ∷ 8 ∷ 16 ∷ 8 ∷ 1 ∷ []) k 0
 
@@ -43,7 +43,7 @@ sectionFault s k =
     ▹ given (ltb (rowLimit k) (lengthOf s k / width s k)) (badSection k)
     ▹ given (eqb k 9 && not (eqb (offsetOf s k + lengthOf s k) (length s))) (badSection k)
 
--- the first four bytes
+-- 01's mark: the four bytes that a sheet begins with, its magic number
 abbrev pub mark : List ℕ
 mark = 0x4B ∷ 0x47 ∷ 0x53 ∷ 0x31 ∷ []
 

@@ -12,15 +12,15 @@ use Rattle.backward_induction.specs.Solve.{Solution, solve}
 use Rattle.memo.specs.declared.Visit.{Visit}
 use Rattle.memo.specs.declared.Visit.the-variants.{Solved, Refused}
 use Rattle.memo.specs.Memo.{height, solutionAt, Right, Rows, Memo, Extends}
-use Rattle.memo.specs.Visits.{Visits, Keeps, KeptAs}
+use Rattle.memo.specs.Visiting.{SolvesAs, Keeps, KeptAs}
 use Rattle.memo.proofs.MemoLaws.{stored-same, stored-extends, stored-memo, solution-is}
 
 module _ {method : Method} {s : List ℕ} where
-  pub refused-visits : {m m′ : Rows} {left e : ℕ} {r : Refusal} → Memo method s m′ → Extends m m′ → solve method (gameOf s) left e ≡ refused r → Visits method s m m′ left e (Refused r)
+  pub refused-visits : {m m′ : Rows} {left e : ℕ} {r : Refusal} → Memo method s m′ → Extends m m′ → solve method (gameOf s) left e ≡ refused r → SolvesAs method s m m′ left e (Refused r)
   refused-visits memo ext h = record { memo = memo; extends = ext; visited = h }
 
   module _ (m m′ : Rows) {row depth e left : ℕ} {v : Visit} (memo : Memo method s m) (here : row < rowCount s 0) (entity : field s 0 row 0 ≡ e) (near : depth ≤ left) (some-depth : 0 < depth) where
-    keeps-visits : (x : Solution) → Keeps method s m m′ row depth x → v ≡ Solved row → ((k : ℕ) → depth ≤ k → solve method (gameOf s) k e ≡ done x) → Visits method s m m′ left e v
+    keeps-visits : (x : Solution) → Keeps method s m m′ row depth x → v ≡ Solved row → ((k : ℕ) → depth ≤ k → solve method (gameOf s) k e ≡ done x) → SolvesAs method s m m′ left e v
     keeps-visits x k q h =
         let within = memo .within row here in
         let low = k .stands .sized .low in
@@ -39,6 +39,6 @@ module _ {method : Method} {s : List ℕ} where
           };
         })
 
-    pub kept-visits : (a : Answer Solution) → KeptAs method s m m′ row depth a v → ((k : ℕ) → depth ≤ k → solve method (gameOf s) k e ≡ a) → Visits method s m m′ left e v
+    pub kept-visits : (a : Answer Solution) → KeptAs method s m m′ row depth a v → ((k : ℕ) → depth ≤ k → solve method (gameOf s) k e ≡ a) → SolvesAs method s m m′ left e v
     kept-visits (refused r) (p, q) h = rw (p, q) (record { memo = memo; extends = λ i f. f; visited = h left near })
     kept-visits (done x) (k, q) h = keeps-visits x k q h

@@ -21,7 +21,7 @@ nodeFault s i =
     ▹ given (ltb 0 (field s 0 i 4) && not (eqb (field s 0 i 8) 0)) (badRow 0 i)
     ▹ given (eqb (field s 0 i 8) noPlayer) (invalidPlayer (field s 0 i 8))
 
--- sections 2 and 3 begin with entity and label number: a label of length 0 is not used
+-- sections 2 and 3 begin with entity and label number: 5 where there is no such label, 7 where it has length 0
 unfoldable pub labelFault : List ℕ → ℕ → ℕ → Fault
 labelFault s k i =
     given (not (ltb (field s k i 4) (rowCount s 8))) (badRow k i)

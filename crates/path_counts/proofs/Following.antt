@@ -20,7 +20,7 @@ use Rattle.sheet.specs.Found.{NodeAt}
 use Rattle.path_counts.specs.declared.Visit.{Visit}
 use Rattle.path_counts.specs.declared.Tally.{Tally}
 use Rattle.path_counts.specs.Paths.{Path, behind, along, paths}
-use Rattle.path_counts.specs.Counts.{Counts, Right, Memo, Inner, CountedIn, Visits, added, keptIn, keptAs}
+use Rattle.path_counts.specs.Counts.{Counts, Right, Memo, Inner, CountedIn, CountsAs, added, keptIn, keptAs}
 use Rattle.path_counts.proofs.PathLaws.{along-nil, along-stop, along-next, no-edges, some-edges, joined}
 use Rattle.path_counts.proofs.CountLaws.{counts-none, counts-added}
 use Rattle.path_counts.proofs.MemoLaws.{kept-visits}
@@ -142,7 +142,7 @@ module _ {s : List ℕ} {e left n : ℕ} where
 
       -- the node's counts, kept in its row
       pub kept : {m m′ : List (List ℕ)} {row : ℕ} {v : Visit} → Memo s m → NodeAt s row e → left ≤ 64
-          → (m′ ≡ keptIn m row t) × (v ≡ keptAs e row t) → Visits s m′ left e v
+          → (m′ ≡ keptIn m row t) × (v ≡ keptAs e row t) → CountsAs s m′ left e v
       kept memo own low (p, q) =
           ⊎-elim
           (λ (h : t .deepest ≡ 0). rw (p, q, eq-eqb (t .deepest) 0 h) (record { memo = memo; visited = ends-without h }))

@@ -20,7 +20,7 @@ use Rattle.path_counts.specs.declared.Visit.the-variants.{Counted, Refus
 use Rattle.path_counts.specs.declared.Entered.{Entered}
 use Rattle.path_counts.specs.declared.Entered.the-variants.{Done}
 use Rattle.path_counts.specs.Paths.{paths}
-use Rattle.path_counts.specs.Counts.{height, Right, Memo, known, CountedIn, Visits, Inner, Enters, wordCount, sizeFrom}
+use Rattle.path_counts.specs.Counts.{height, Right, Memo, known, CountedIn, CountsAs, Inner, Enters, wordCount, sizeFrom}
 use Rattle.path_counts.specs.declared.Entered.the-variants as Entering
 
 pub empty-memo : (s : List ℕ) → Opens s → Memo s (replicate 1024 (replicate 3 0))
@@ -36,14 +36,14 @@ empty-memo s ok =
 
 -- ---- a node that was entered
 module _ {s : List ℕ} {m : List (List ℕ)} {left e : ℕ} {v : Entered} (enters : Enters s m left e v) where
-  pub entered-done : (w : Visit) → v ≡ Done w → Visits s m left e w
+  pub entered-done : (w : Visit) → v ≡ Done w → CountsAs s m left e w
   entered-done w p = rw p at enters
 
   pub entered-inner : (i : ℕ) → v ≡ Entering.Inner i → Memo s m × (0 < left) × NodeAt s i e × Inner s e
   entered-inner i p = rw p at enters
 
 -- ---- a visit
-module _ {s : List ℕ} {m : List (List ℕ)} {left e : ℕ} {v : Visit} (visits : Visits s m left e v) where
+module _ {s : List ℕ} {m : List (List ℕ)} {left e : ℕ} {v : Visit} (visits : CountsAs s m left e v) where
   pub visited-counted : (i : ℕ) → v ≡ Counted i → CountedIn s m left e i
   visited-counted i p = rw p at (visits .visited)
 
@@ -62,7 +62,7 @@ module _ {s : List ℕ} {m : List (List ℕ)} {left e : ℕ} {v : Visit} (visits
       let a = visits .memo .right i (found .own .here) (found .counted) in
       rw (← found .own .entity, a .right left (found .near)) (ap done (a .counts .as-words))
 
-pub refused-visits : {s : List ℕ} {m : List (List ℕ)} {left e : ℕ} {v : Visit} {r : Refusal} → Memo s m → v ≡ Refused r → paths (gameOf s) left e ≡ refused r → Visits s m left e v
+pub refused-visits : {s : List ℕ} {m : List (List ℕ)} {left e : ℕ} {v : Visit} {r : Refusal} → Memo s m → v ≡ Refused r → paths (gameOf s) left e ≡ refused r → CountsAs s m left e v
 refused-visits memo p h = rw p (record { memo = memo; visited = h })
 
 equal? : (i j : ℕ) → (i ≡ j) ⊎ (i ≡ j → ⊥)
@@ -81,7 +81,7 @@ module _ {s : List ℕ} {m : List (List ℕ)} (memo : Memo s m) {e i : ℕ} (own
   row-within = omega (arith, own .here, memo .within)
 
   -- what is known is right
-  pub known-visits : (left : ℕ) → true ≡ known (getD m i []) left → Visits s m left e (Counted i)
+  pub known-visits : (left : ℕ) → true ≡ known (getD m i []) left → CountsAs s m left e (Counted i)
   known-visits left h =
       let k = both (ltb 0 (height (getD m i []))) (leb (height (getD m i [])) left) h in
       record {
@@ -106,7 +106,7 @@ module _ {s : List ℕ} {m : List (List ℕ)} (memo : Memo s m) {e i : ℕ} (own
         (λ (u : j ≡ i → ⊥). let o = getD-set-other m i j row [] u in rw o (memo .right j l (rw o at h)))
         (equal? j i)
 
-    pub kept-visits : (left : ℕ) → 0 < height row → height row ≤ left → Visits s (set m i row) left e (Counted i)
+    pub kept-visits : (left : ℕ) → 0 < height row → height row ≤ left → CountsAs s (set m i row) left e (Counted i)
     kept-visits left pos near =
         record {
           memo = record { within = rw length-set (memo .within); right = kept-right };

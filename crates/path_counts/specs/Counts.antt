@@ -66,14 +66,14 @@ pub record CountedIn (s : List ℕ) (m : List (List ℕ)) (left e i : ℕ) : Typ
   pub counted : 0 < height (getD m i [])
   pub near : height (getD m i []) ≤ left
 
-abbrev pub Visited : List ℕ → List (List ℕ) → ℕ → ℕ → Visit → Type 0
-Visited s m left e (Visiting.Counted i) = CountedIn s m left e i
-Visited s m left e (Visiting.Refused r) = paths (gameOf s) left e ≡ refused r
+abbrev pub CountedAs : List ℕ → List (List ℕ) → ℕ → ℕ → Visit → Type 0
+CountedAs s m left e (Visiting.Counted i) = CountedIn s m left e i
+CountedAs s m left e (Visiting.Refused r) = paths (gameOf s) left e ≡ refused r
 
 -- a visit of the node e with so much depth left, after which the memo is m
-pub record Visits (s : List ℕ) (m : List (List ℕ)) (left e : ℕ) (v : Visit) : Type 0 where
+pub record CountsAs (s : List ℕ) (m : List (List ℕ)) (left e : ℕ) (v : Visit) : Type 0 where
   pub memo : Memo s m
-  pub visited : Visited s m left e v
+  pub visited : CountedAs s m left e v
 
 -- a node that goes by its edges, and is no terminal
 abbrev pub Continues : Game → ℕ → Type 0
@@ -87,7 +87,7 @@ pub record Inner (s : List ℕ) (e : ℕ) : Type 0 where
 
 -- the node e is entered: it is visited, or its edges are left to follow
 abbrev pub Enters : List ℕ → List (List ℕ) → ℕ → ℕ → Entered → Type 0
-Enters s m left e (Entering.Done v) = Visits s m left e v
+Enters s m left e (Entering.Done v) = CountsAs s m left e v
 Enters s m left e (Entering.Inner i) = Memo s m × (0 < left) × NodeAt s i e × Inner s e
 
 -- ---- the edges of a node
@@ -106,10 +106,11 @@ pub record Capped (many words : ℕ) : Type 0 where
   pub few-paths : many ≤ cap
   pub few-words : words ≤ cap
 
--- the counts of the node e, kept in a row: 16 where it has no edge
+-- the memo with the counts kept in a row, or as it was where the node has no edge
 abbrev pub keptIn : List (List ℕ) → ℕ → Tally → List (List ℕ)
 keptIn m i t = cond (eqb (t .deepest) 0) m (set m i ((t .deepest + 1) ∷ t .paths ∷ t .words ∷ []))
 
+-- the row of the node e, or 16 where it has no edge
 abbrev pub keptAs : ℕ → ℕ → Tally → Visit
 keptAs e i t = cond (eqb (t .deepest) 0) (Visiting.Refused (noOutgoingActions e)) (Visiting.Counted i)
 

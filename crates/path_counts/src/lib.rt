@@ -10,7 +10,7 @@ ghost use Rattle.game.specs.declared.Kind.{Kind};
 ghost use Rattle.game.specs.Game.{kindOf};
 ghost use Rattle.sheet.specs.Meaning.{gameOf};
 ghost use Rattle.sheet.specs.Found.{NodeAt};
-ghost use Rattle.path_counts.specs.Counts.{cap, height, pathCount, wordCount, Memo, known, Visits, Continues, Enters, Capped, added, keptIn, keptAs, sized, sizeFrom};
+ghost use Rattle.path_counts.specs.Counts.{cap, height, pathCount, wordCount, Memo, known, CountsAs, Continues, Enters, Capped, added, keptIn, keptAs, sized, sizeFrom};
 use answer::Check;
 use answer::Refusal;
 use edges::ActionStep;
@@ -82,7 +82,7 @@ fn count_terminal(
     row: usize,
 ) -> Visit
     requires { ⌜ Noted (now sheet) (now hints) × Memo (now sheet) (now memo) × NodeAt (now sheet) row entity × (kindOf (gameOf (now sheet)) entity ≡ some Kind.Terminal) ⌝ }
-    ensures { λ v. ⌜ ((left : ℕ) → 0 < left → Visits (now (sheet .entry)) (now (memo .exit)) left entity v) ⌝ }
+    ensures { λ v. ⌜ ((left : ℕ) → 0 < left → CountsAs (now (sheet .entry)) (now (memo .exit)) left entity v) ⌝ }
 {
     let TerminalFound::Found(t) = sheet::find_terminal(sheet, hints, entity) else {
         return refused(13, entity);
@@ -186,7 +186,7 @@ fn count_paths(
     left: usize,
 ) -> Visit
     requires { ⌜ Noted (now sheet) (now hints) × (left ≤ 64) × Memo (now sheet) (now memo) ⌝ }
-    ensures { λ v. ⌜ Visits (now (sheet .entry)) (now (memo .exit)) left entity v ⌝ }
+    ensures { λ v. ⌜ CountsAs (now (sheet .entry)) (now (memo .exit)) left entity v ⌝ }
 {
     let entered = enter(sheet, hints, memo, entity, left);
     match entered {

@@ -8,9 +8,9 @@ ghost use lib.ListN.{length, take};
 ghost use Rattle.number.specs.Number.{toBits};
 ghost use Rattle.answer.specs.Answer.{faultIn};
 ghost use Rattle.answer.specs.Refusals.{refusal};
-ghost use Rattle.answer.specs.Listing.{outcome, leaves};
+ghost use Rattle.answer.specs.Listing.{effect, leaves};
 ghost use Rattle.rows.specs.Store.{rowsFrom};
-ghost use Rattle.text.specs.Written.{written};
+ghost use Rattle.text.specs.Written.{written, Writes};
 ghost use Rattle.layout.specs.Layout.{rowCount};
 ghost use Rattle.lookup.specs.Hints.{Noted};
 ghost use Rattle.sheet.specs.Meaning.{payoffRow, gameOf, Opens};
@@ -72,7 +72,7 @@ fn write_path(
     at: usize,
 ) -> usize
     requires { ⌜ Opens (now sheet) × InSheet (now sheet) (TerminalFound.Found t) × (count ≤ length (now labels)) × (at + length (recordOf (pathTo (now sheet) t (take count (now labels)))) ≤ length (now out)) ⌝ }
-    ensures { λ r. ⌜ (r ≡ at + length (recordOf (pathTo (now (sheet .entry)) t (take count (now (labels .entry)))))) × (now (out .exit) ≡ written (now (out .entry)) at (recordOf (pathTo (now (sheet .entry)) t (take count (now (labels .entry)))))) ⌝ }
+    ensures { λ r. ⌜ Writes (now (out .entry)) at (recordOf (pathTo (now (sheet .entry)) t (take count (now (labels .entry))))) (now (out .exit)) r ⌝ }
 {
     out[at] = t.entity as u64;
     out[at + 1] = t.count as u64;
@@ -154,7 +154,7 @@ fn refused(number: u64, a: u64) -> Written
 // The paths of an opened sheet to a depth, at the buffer's start, or the first refusal and the buffer as it was.
 fn list_paths(sheet: &[u8], start: u32, depth: usize, out: &mut [u64]) -> Written
     requires { ⌜ Opens (now sheet) × (depth ≤ 64) ⌝ }
-    ensures { λ r. ⌜ leaves r (now (out .exit)) ≡ outcome (now (out .entry)) (listingFrom (gameOf (now (sheet .entry))) depth start (length (now (out .entry)))) ⌝ }
+    ensures { λ r. ⌜ leaves r (now (out .exit)) ≡ effect (now (out .entry)) (listingFrom (gameOf (now (sheet .entry))) depth start (length (now (out .entry)))) ⌝ }
 {
     let room = out.len();
     let mut hints = [0u16; 8192];
@@ -174,7 +174,7 @@ fn list_paths(sheet: &[u8], start: u32, depth: usize, out: &mut [u64]) -> Writte
 // Any bytes, start and limit: 27, the refusals of opening, then the paths at the buffer's start, or the first refusal and the
 // buffer as it was.
 pub fn paths(sheet: &[u8], start: u32, limit: u64, out: &mut [u64]) -> Written
-    ensures { λ r. ⌜ leaves r (now (out .exit)) ≡ outcome (now (out .entry)) (listing (now (sheet .entry)) start limit (length (now (out .entry)))) ⌝ }
+    ensures { λ r. ⌜ leaves r (now (out .exit)) ≡ effect (now (out .entry)) (listing (now (sheet .entry)) start limit (length (now (out .entry)))) ⌝ }
 {
     if 64 < limit {
         return refused(27, limit);

@@ -12,7 +12,7 @@ use lib.Seq.{length-take-le, take-append-seam, drop-append-le, getD-append-add, 
 use Rattle.solver.specs.Held.{padded}
 use Rattle.answer.specs.declared.Refusal.{Refusal}
 use Rattle.answer.specs.Answer.{Answer, refused, done}
-use Rattle.answer.specs.Listing.{outcome}
+use Rattle.answer.specs.Listing.{effect}
 use Rattle.kgs.specs.Interface.{Left, left, kgsLeft}
 use Rattle.replay.specs.Lent.{LentFrom}
 use Rattle.replay.specs.Words.{leftWords, row}
@@ -36,25 +36,25 @@ abbrev Told : Left → List ℕ → Answer (List ℕ) → Type 0
 Told l rest a = (row (leftWords (left (l .written) (l .buffer ++ rest))) ≡ row (listingWords a)) × LentFrom (l .written .count) (l .buffer ++ rest)
 
 module _ (held : List ℕ) (room : ℕ) (fresh : (6200 ≡ length held) × LentFrom 0 held) (within : room ≤ 6200) where
-  told-refused : (r : Refusal) → Told (kgsLeft (outcome (take room held) (refused r))) (drop room held) (refused r)
-  unfolding outcome listingWords leftWords row padded
+  told-refused : (r : Refusal) → Told (kgsLeft (effect (take room held) (refused r))) (drop room held) (refused r)
+  unfolding effect listingWords leftWords row padded
   told-refused r = (refl, rw (take-append-drop room held) (fresh .1))
 
-  told-done : (words : List ℕ) → length words ≤ room → Told (kgsLeft (outcome (take room held) (done words))) (drop room held) (done words)
-  unfolding outcome listingWords leftWords
+  told-done : (words : List ℕ) → length words ≤ room → Told (kgsLeft (effect (take room held) (done words))) (drop room held) (done words)
+  unfolding effect listingWords leftWords
   told-done words fits =
       let w : room ≤ length held = omega arith in
       rw (after-listing words held room fits w) (rw take-append-seam, kept-after words held room fits w (fresh .1))
 
-  told-any : (a : Answer (List ℕ)) → length (outcome (take room held) a .buffer) ≡ length (take room held) → Told (kgsLeft (outcome (take room held) a)) (drop room held) a
-  unfolding outcome
+  told-any : (a : Answer (List ℕ)) → length (effect (take room held) a .buffer) ≡ length (take room held) → Told (kgsLeft (effect (take room held) a)) (drop room held) a
+  unfolding effect
   told-any (refused r) n = told-refused r
   told-any (done words) n =
       told-done words
       (omega (arith, length-append words (drop (length words) (take room held)), length-drop (length words) (take room held), length-take-le room held (omega arith)))
 
   -- a call's listing that fills no more than its room agrees where its words are the stored ones: the rest of the buffer is always as it was
-  module _ (a : Answer (List ℕ)) (l : Left) (e : l ≡ kgsLeft (outcome (take room held) a)) (n : length (l .buffer) ≡ length (take room held)) where
+  module _ (a : Answer (List ℕ)) (l : Left) (e : l ≡ kgsLeft (effect (take room held) a)) (n : length (l .buffer) ≡ length (take room held)) where
     pub back-length : length (l .buffer ++ drop room held) ≡ 6200
     back-length = omega (arith, length-append (l .buffer) (drop room held), length-drop room held, length-take-le room held (omega arith))
 

@@ -19,15 +19,16 @@ use Rattle.answer.specs.Answer.{Answer, refused, done}
 use Rattle.game.specs.Game.{Game}
 use Rattle.layout.specs.Layout.{rootOf}
 use Rattle.sheet.specs.Meaning.{gameOf, opening, Opens}
-use Rattle.sheet.proofs.OpeningLaws.{opening-done}
+use Rattle.sheet.specs.Limit.{depthOf}
+use Rattle.sheet.proofs.LimitLaws.{depth-range}
 use Rattle.sheet.proofs.AcceptedGame.{accepted}
 use Rattle.backward_induction.specs.declared.Method.{Method}
 use Rattle.backward_induction.specs.declared.Method.the-variants.{ChanceWeighted}
 use Rattle.backward_induction.specs.Solve.{Solution, allFinite, solve}
-use Rattle.backward_induction.specs.Call.{depthOf, solution}
+use Rattle.backward_induction.specs.Call.{solution}
 use Rattle.backward_induction.proofs.Bounds.{all-finite, solve-sized}
 use Rattle.backward_induction.proofs.NoBetter.{solve-finite}
-use Rattle.backward_induction.proofs.CallLaws.{depth-range, call-within, call-unopened}
+use Rattle.backward_induction.proofs.CallLaws.{call-unopened, call-solves}
 use Rattle.solver.specs.declared.Solved.{Solved}
 use Rattle.solver.specs.Held.{endingOf, held, padded, heldFor}
 use Rattle.report.specs.Report.{terminalLine, actionLine, payoffLine, refusedLine, report, printed}
@@ -88,9 +89,6 @@ holds false t = absurd t
 
 -- ---- what is held can be printed
 module _ (method : Method) (s : List ℕ) (ok : Opens s) (start limit : ℕ) (most : limit ≤ 64) where
-  solved-call : solution method s start limit ≡ solve method (gameOf s) (depthOf limit) start
-  solved-call = call-within method s limit most start ∙ rw (opening-done s ok)
-
   printable : (a : Answer Solution) → solve method (gameOf s) (depthOf limit) start ≡ a → Printable (heldFor a)
   unfolding heldFor allFinite
   printable (refused r) e = record { few-actions = omega arith; few-payoffs = omega arith; finite-payoffs = padded-finite 8 [] refl }
@@ -106,12 +104,12 @@ module _ (method : Method) (s : List ℕ) (ok : Opens s) (start limit : ℕ) (mo
       }
 
   pub solution-printable : Printable (heldFor (solution method s start limit))
-  solution-printable = rw solved-call (printable _ refl)
+  solution-printable = rw (call-solves method s start limit most ok) (printable _ refl)
 
 -- ---- what the program prints
 pub printed-refused : (s : List ℕ) (r : Refusal) → opening s ≡ refused r → printed s ≡ refusedLine r
 unfolding printed report
-printed-refused s r e = ap (report (gameOf s)) (call-unopened ChanceWeighted s 0 (omega arith) r e (rootOf s))
+printed-refused s r e = ap (report (gameOf s)) (call-unopened ChanceWeighted s (rootOf s) 0 (omega arith) r e)
 
 pub printed-held : (s : List ℕ) (a : Solved) (root : ℕ) → root ≡ rootOf s → held a ≡ heldFor (solution ChanceWeighted s root 0) → heldReport (gameOf s) (held a) ≡ printed s
 unfolding printed

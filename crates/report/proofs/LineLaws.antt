@@ -22,7 +22,7 @@ use Rattle.sheet.proofs.LabelLaws.{label-count, label-is, label-length}
 use Rattle.text.proofs.WrittenLaws.{written-empty, take-written, written-then}
 use Rattle.text.proofs.DigitLaws.{length-hexadecimal, decimal-most}
 use Rattle.report.specs.Report.{ending, terminalLine, actionLine, payoffLine}
-use Rattle.report.specs.Writes.{Writes}
+use Rattle.text.specs.Written.{Writes}
 
 -- ---- texts in a row
 pub three-writes : (b : List ℕ) (at : ℕ) (x y z : List ℕ) {out₁ out₂ out₃ : List ℕ} {end₁ end₂ end₃ : ℕ} → at ≤ length b

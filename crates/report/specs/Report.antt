@@ -13,7 +13,7 @@ use Rattle.backward_induction.specs.declared.Method.the-variants.{ChanceWeighte
 use Rattle.backward_induction.specs.Solve.{Solution}
 use Rattle.backward_induction.specs.Call.{solution}
 
--- ---- the words, in ASCII, each with the space after it
+-- ---- the words in ASCII, each that stands before another with the space after it
 abbrev pub terminalWord : List ℕ
 terminalWord = 0x74 ∷ 0x65 ∷ 0x72 ∷ 0x6D ∷ 0x69 ∷ 0x6E ∷ 0x61 ∷ 0x6C ∷ 0x20 ∷ []
 

@@ -14,7 +14,7 @@ ghost use Rattle.backward_induction.specs.Solve.{allFinite};
 ghost use Rattle.solver.specs.Held.{endingOf, held};
 ghost use Rattle.report.specs.Report.{ending, terminalLine, actionLine, payoffLine, refusedLine, printed};
 ghost use Rattle.report.specs.HeldReport.{heldReport, Printable};
-ghost use Rattle.report.specs.Writes.{Writes};
+ghost use Rattle.text.specs.Written.{Writes};
 use answer::Check;
 use answer::Refusal;
 use solver::Ending;

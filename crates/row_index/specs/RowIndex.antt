@@ -9,7 +9,7 @@ use lib.ListN.{length, getD}
 use Rattle.rows.specs.Rows.{rowsIn, entityAt, namedBy, Distinct}
 
 -- an entity and its higher digits to the base 32 added up, so that entities in steps of ten, a thousand or a power of two have places apart as well
--- as those one after the other; in a long table some of the digits do better than all
+-- as those one after the other; in a long table only two of the digits are added
 unfoldable pub folded : ℕ → ℕ → ℕ
 folded n e = e + e / 1024 + e / 32768 + cond (leb n 1024) (e / 32 + e / 1048576 + e / 33554432) 0
 

@@ -14,7 +14,7 @@ rowsFrom row i (suc k) = row i ∷ rowsFrom row (suc i) k
 abbrev pub allRows : {R : Type 0} → (ℕ → R) → ℕ → List R
 allRows row n = rowsFrom row 0 n
 
--- 01's `get`: the row of an entity, where `entity` says whose a row is
+-- 01's `get`: the first row with that key, which `entity` reads off a row; of an entity a store has at most one row
 unfoldable pub get : {R : Type 0} → (R → ℕ) → ℕ → List R → Option R
 get entity e [] = none
 get entity e (r ∷ rs) = elim (eqb (entity r) e) [ true ↦ some r | false ↦ get entity e rs ]

@@ -35,7 +35,7 @@ use Rattle.backward_induction.specs.Turns.{addedTo}
 use Rattle.memo.specs.declared.Visit.{Visit}
 use Rattle.memo.specs.declared.Visit.the-variants.{Solved, Refused}
 use Rattle.memo.specs.Memo.{Rows, entry, height, payoffCount, payoffsOf, Tells, solutionAt, Memo}
-use Rattle.memo.specs.Visits.{Visits, KeptAs}
+use Rattle.memo.specs.Visiting.{SolvesAs, KeptAs}
 use Rattle.turns.specs.declared.Best.{Best}
 use Rattle.turns.specs.declared.ReplyTurn.{ReplyTurn}
 use Rattle.turns.specs.declared.ReplyTurn.the-variants.{Go, Stop}
@@ -66,7 +66,7 @@ module _ {method : Method} {s hints links : List ℕ} {m₀ m : Rows} {row e p l
     decision-room = Replying.best-extends (walk .noted .opens) (walk .memo) e deepest best (deciding .kept) (replied deepest (omega arith))
 
     pub decision-ends : (m′ : Rows) {v : Visit}
-        → ((by : Method) (sheet : List ℕ) → Memo by sheet m → KeptIn sheet m best → KeptAs by sheet m m′ row (deepest + 1) (decided e (leadIn by sheet best)) v) → Visits method s m₀ m′ left e v
+        → ((by : Method) (sheet : List ℕ) → Memo by sheet m → KeptIn sheet m best → KeptAs by sheet m m′ row (deepest + 1) (decided e (leadIn by sheet best)) v) → SolvesAs method s m₀ m′ left e v
     decision-ends m′ kept = walk-kept walk m′ (decided e (leadIn method s best)) (kept method s (walk .memo) (deciding .kept)) replied
 
   -- the next child row
@@ -86,11 +86,11 @@ module _ {method : Method} {s hints links : List ℕ} {m₀ m : Rows} {row e p l
       edge : actionEdgeIn (gameOf s) e (childRow s i) ≡ done (some x)
       edge = sym found ∙ ap actionStep is
 
-      module _ (m′ : Rows) {less : ℕ} {v : Visit} (one : left ≡ suc less) (visit : Visits method s m m′ less (x .target) v) where
-        so : {r : Refusal} → solve method (gameOf s) (suc less) e ≡ refused r → Visits method s m₀ m′ left e (Refused r)
+      module _ (m′ : Rows) {less : ℕ} {v : Visit} (one : left ≡ suc less) (visit : SolvesAs method s m m′ less (x .target) v) where
+        so : {r : Refusal} → solve method (gameOf s) (suc less) e ≡ refused r → SolvesAs method s m₀ m′ left e (Refused r)
         so h = walk-refused walk m′ visit (ap (λ k. solve method (gameOf s) k e) one ∙ h)
 
-        pub reply-refused : {r : Refusal} → v ≡ Refused r → Visits method s m₀ m′ left e v
+        pub reply-refused : {r : Refusal} → v ≡ Refused r → SolvesAs method s m₀ m′ left e v
         reply-refused q =
             let deep = walk .deep in
             visited-as m₀ m′ (sym q) (so (Replying.target-refused deciding child-row edge (omega arith) (visited-as m m′ q visit .visited)))
@@ -100,7 +100,7 @@ module _ {method : Method} {s hints links : List ℕ} {m₀ m : Rows} {row e p l
           replied-to : Replied method s p best x at t
           replied-to = let visited = visited-as m m′ there visit in replies method s (visited .memo .right at (visited .visited .filled) .stands .tells)
 
-          pub reply-stops : {r : Refusal} → t ≡ Stop r → Visits method s m₀ m′ left e (Refused r)
+          pub reply-stops : {r : Refusal} → t ≡ Stop r → SolvesAs method s m₀ m′ left e (Refused r)
           reply-stops q =
               let deep = walk .deep in
               so (Replying.reply-stops deciding child-row edge (visited-as m m′ there visit) (subst (Replied method s p best x at) q replied-to) (omega arith) (omega arith))
@@ -111,7 +111,7 @@ module _ {method : Method} {s hints links : List ℕ} {m₀ m : Rows} {row e p l
 -- ---- a chance node
 module _ {method : Method} {s hints links : List ℕ} {m₀ m : Rows} {row e left n i deepest : ℕ} {w : Sums} (walk : Walk method s hints links m₀ m row e left n i deepest) (weighing : Weighing method s e i deepest w) where
   -- the end
-  pub chance-ends : n ≤ i → (m′ : Rows) {v : Visit} → ((by : Method) (sheet : List ℕ) (sums : Option (List Number)) → Holds w sums → KeptAs by sheet m m′ row (deepest + 1) (weighedUp e sums) v) → Visits method s m₀ m′ left e v
+  pub chance-ends : n ≤ i → (m′ : Rows) {v : Visit} → ((by : Method) (sheet : List ℕ) (sums : Option (List Number)) → Holds w sums → KeptAs by sheet m m′ row (deepest + 1) (weighedUp e sums) v) → SolvesAs method s m₀ m′ left e v
   chance-ends end m′ kept =
       let q = walk .rows in
       walk-kept walk m′ (weighedUp e (weighing .sums)) (kept method s (weighing .sums) (weighing .held)) (Weighing-up.all-outcomes weighing (omega arith))
@@ -133,17 +133,17 @@ module _ {method : Method} {s hints links : List ℕ} {m₀ m : Rows} {row e lef
       outcome : chanceOutcomeIn (gameOf s) e (childRow s i) ≡ done (some (chanceIn o))
       outcome = sym found ∙ ap chanceStep is
 
-      module _ (m′ : Rows) {less : ℕ} {v : Visit} (one : left ≡ suc less) (visit : Visits method s m m′ less (o .target) v) where
-        so-chance : {r : Refusal} → solve method (gameOf s) (suc less) e ≡ refused r → Visits method s m₀ m′ left e (Refused r)
+      module _ (m′ : Rows) {less : ℕ} {v : Visit} (one : left ≡ suc less) (visit : SolvesAs method s m m′ less (o .target) v) where
+        so-chance : {r : Refusal} → solve method (gameOf s) (suc less) e ≡ refused r → SolvesAs method s m₀ m′ left e (Refused r)
         so-chance h = walk-refused walk m′ visit (ap (λ k. solve method (gameOf s) k e) one ∙ h)
 
-        pub outcome-refused : {r : Refusal} → v ≡ Refused r → Visits method s m₀ m′ left e v
+        pub outcome-refused : {r : Refusal} → v ≡ Refused r → SolvesAs method s m₀ m′ left e v
         outcome-refused q =
             let deep = walk .deep in
             visited-as m₀ m′ (sym q) (so-chance (Weighing-up.target-refused weighing outcome-row outcome (omega arith) (visited-as m m′ q visit .visited)))
 
         module _ {at : ℕ} (there : v ≡ Solved at) (f : Check) (counted : faultOf f ≡ outcomeFault e (w .started) (w .count) (payoffCount (entry m′ at))) where
-          pub outcome-stops : {r : Refusal} → f ≡ Checks.Refused r → Visits method s m₀ m′ left e (Refused r)
+          pub outcome-stops : {r : Refusal} → f ≡ Checks.Refused r → SolvesAs method s m₀ m′ left e (Refused r)
           outcome-stops q =
               let deep = walk .deep in
               so-chance (Weighing-up.outcome-stops weighing outcome-row outcome (visited-as m m′ there visit) counted (ap faultOf q) (omega arith) (omega arith))

@@ -25,7 +25,7 @@ use Rattle.backward_induction.specs.Solve.{Solution, Solver, weighed, solve}
 use Rattle.backward_induction.specs.Turns.{addedTo, sumsFrom}
 use Rattle.backward_induction.proofs.SolveLaws.{sumsFrom-cons, sumsFrom-stop}
 use Rattle.memo.specs.Memo.{Rows, entry, height, payoffCount, payoffsOf, solutionAt}
-use Rattle.memo.specs.Visits.{Visits}
+use Rattle.memo.specs.Visiting.{SolvesAs}
 use Rattle.memo.specs.declared.Visit.the-variants.{Solved}
 use Rattle.turns.specs.declared.Sums.{Sums}
 use Rattle.turns.specs.Sums.{Holds, outcomeFault, weighedUp}
@@ -76,7 +76,7 @@ module _ {method : Method} {s : List ℕ} {e i deepest : ℕ} {w : Sums} (walk :
       target-refused {k} {r} h q = next-outcome λ os l right. right k h ∙ ap (summed e) (sumsFrom-stop (solve method (gameOf s) k) e (walk .sums) o os r q)
 
       -- ---- the target's answer is in a row of the memo
-      module _ {m m′ : Rows} {left at : ℕ} (visit : Visits method s m m′ left (o .target) (Solved at)) {fault : Fault} (counted : fault ≡ outcomeFault e (w .started) (w .count) (payoffCount (entry m′ at))) where
+      module _ {m m′ : Rows} {left at : ℕ} (visit : SolvesAs method s m m′ left (o .target) (Solved at)) {fault : Fault} (counted : fault ≡ outcomeFault e (w .started) (w .count) (payoffCount (entry m′ at))) where
         abbrev target-payoffs : List Number
         target-payoffs = payoffsOf (entry m′ at .head) (entry m′ at .payoffs)
 

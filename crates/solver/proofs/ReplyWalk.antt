@@ -24,7 +24,7 @@ use Rattle.backward_induction.specs.Turns.{leading, bestFrom}
 use Rattle.backward_induction.proofs.SolveLaws.{bestFrom-cons, bestFrom-stop, reply-refused, reply-same}
 use Rattle.backward_induction.proofs.Bounds.{solve-sized}
 use Rattle.memo.specs.Memo.{Rows, entry, height, solutionAt, Memo, Extends}
-use Rattle.memo.specs.Visits.{SolvedIn, Visits}
+use Rattle.memo.specs.Visiting.{SolvedIn, SolvesAs}
 use Rattle.memo.specs.declared.Visit.the-variants.{Solved}
 use Rattle.memo.proofs.MemoLaws.{filled-on}
 use Rattle.turns.specs.declared.Best.{Best}
@@ -83,7 +83,7 @@ module _ {method : Method} {s : List ℕ} {m : Rows} {e p i deepest : ℕ} {best
           next-edge λ xs l right. right k h ∙ ap (λ a. a >>= λ y. done (taken y)) (bestFrom-stop (solve method (gameOf s) k) p e (leadIn method s best) x xs r (reply-refused (solve method (gameOf s) k) p x r q))
 
       -- ---- the target's answer is in a row of the memo
-      module _ {m′ : Rows} {left at : ℕ} (visit : Visits method s m m′ left (x .target) (Solved at)) where
+      module _ {m′ : Rows} {left at : ℕ} (visit : SolvesAs method s m m′ left (x .target) (Solved at)) where
         turned : {turn : ReplyTurn} → Replied method s p best x at turn → (xs : List ActionEdge) (k : ℕ) → height (entry m′ at) ≤ k
             → bestFrom (solve method (gameOf s) k) e p (leadIn method s best) (x ∷ xs) ≡ (turnIn method s turn >>= λ lead. bestFrom (solve method (gameOf s) k) e p lead xs)
         turned {turn} r xs k h = best-turn (solve method (gameOf s) k) e p method s best x xs at turn (solved-target m′ (visit .memo) (visit .visited) k h) r

@@ -17,7 +17,7 @@ use Rattle.backward_induction.specs.Solve.{Solution, solve}
 use Rattle.memo.specs.declared.Visit.{Visit}
 use Rattle.memo.specs.declared.Visit.the-variants.{Solved, Refused}
 use Rattle.memo.specs.Memo.{Rows, entry, height, PayoffRoom, Within, Memo, Extends}
-use Rattle.memo.specs.Visits.{Visits, KeptAs}
+use Rattle.memo.specs.Visiting.{SolvesAs, KeptAs}
 use Rattle.memo.proofs.VisitLaws.{kept-visits}
 use Rattle.entering.proofs.FirstChild.{first-chain}
 use Rattle.entering.specs.Solving.{Asks, EnteredAs, Enters}
@@ -57,19 +57,19 @@ walk-starts m asks some-depth node rows to =
       as-long = record { heads = refl; payoffs = refl };
     }
 
-pub visits-after : {method : Method} {s : List ℕ} (m m₁ m′ : Rows) {left e : ℕ} {v : Visit} → Extends m m₁ → Visits method s m₁ m′ left e v → Visits method s m m′ left e v
+pub visits-after : {method : Method} {s : List ℕ} (m m₁ m′ : Rows) {left e : ℕ} {v : Visit} → Extends m m₁ → SolvesAs method s m₁ m′ left e v → SolvesAs method s m m′ left e v
 visits-after m m₁ m′ ext v = record { memo = v .memo; extends = λ i h. v .extends i (ext i h); visited = v .visited }
 
 -- a visit told apart
-pub visited-as : {method : Method} {s : List ℕ} (m m′ : Rows) {left e : ℕ} {v w : Visit} → v ≡ w → Visits method s m m′ left e v → Visits method s m m′ left e w
-visited-as {method} {s} m m′ {left} {e} q visit = subst (Visits method s m m′ left e) q visit
+pub visited-as : {method : Method} {s : List ℕ} (m m′ : Rows) {left e : ℕ} {v w : Visit} → v ≡ w → SolvesAs method s m m′ left e v → SolvesAs method s m m′ left e w
+visited-as {method} {s} m m′ {left} {e} q visit = subst (SolvesAs method s m m′ left e) q visit
 
 -- the row of an answer is one of the memo, and its payoffs are within their array
 pub record AnswerRow (m : Rows) (at : ℕ) : Type 0 where
   pub within : Within m at
   pub room : PayoffRoom (entry m at .head) (entry m at .payoffs)
 
-pub answer-row : {method : Method} {s : List ℕ} (m m′ : Rows) {left e at : ℕ} {v : Visit} → v ≡ Solved at → Visits method s m m′ left e v → AnswerRow m′ at
+pub answer-row : {method : Method} {s : List ℕ} (m m′ : Rows) {left e at : ℕ} {v : Visit} → v ≡ Solved at → SolvesAs method s m m′ left e v → AnswerRow m′ at
 answer-row m m′ q visit =
     let there = visited-as m m′ q visit in
     record { within = there .memo .within _ (there .visited .filled .row); room = there .memo .right _ (there .visited .filled) .stands .sized .payoff-room }
@@ -115,7 +115,7 @@ module _ {method : Method} {s hints links : List ℕ} {m₀ m : Rows} {row e lef
             as-long = walk .as-long;
           }
 
-      pub walk-goes : (m′ : Rows) {less target at depth : ℕ} → less < left → Visits method s m m′ less target (Solved at) → AsLong m m′ → depth ≡ max deepest (height (entry m′ at))
+      pub walk-goes : (m′ : Rows) {less target at depth : ℕ} → less < left → SolvesAs method s m m′ less target (Solved at) → AsLong m m′ → depth ≡ max deepest (height (entry m′ at))
           → Walk method s hints links m₀ m′ row e left n j depth
       walk-goes m′ less visit long d =
           let near = visit .visited .near in
@@ -133,12 +133,12 @@ module _ {method : Method} {s hints links : List ℕ} {m₀ m : Rows} {row e lef
             as-long = record { heads = long .heads ∙ walk .as-long .heads; payoffs = long .payoffs ∙ walk .as-long .payoffs };
           }
 
-  module _ (m′ : Rows) {less target : ℕ} {v : Visit} (visit : Visits method s m m′ less target v) where
-    pub walk-refused : {r : Refusal} → solve method (gameOf s) left e ≡ refused r → Visits method s m₀ m′ left e (Refused r)
+  module _ (m′ : Rows) {less target : ℕ} {v : Visit} (visit : SolvesAs method s m m′ less target v) where
+    pub walk-refused : {r : Refusal} → solve method (gameOf s) left e ≡ refused r → SolvesAs method s m₀ m′ left e (Refused r)
     walk-refused h = record { memo = visit .memo; extends = λ j k. visit .extends j (walk .extends j k); visited = h }
 
   -- the end: the node's answer is kept
-  pub walk-kept : (m′ : Rows) {v : Visit} (a : Answer Solution) → KeptAs method s m m′ row (deepest + 1) a v → ((k : ℕ) → deepest ≤ k → solve method (gameOf s) (suc k) e ≡ a) → Visits method s m₀ m′ left e v
+  pub walk-kept : (m′ : Rows) {v : Visit} (a : Answer Solution) → KeptAs method s m m′ row (deepest + 1) a v → ((k : ℕ) → deepest ≤ k → solve method (gameOf s) (suc k) e ≡ a) → SolvesAs method s m₀ m′ left e v
   walk-kept m′ a kept right =
       let deep = walk .deep in
       let near : deepest + 1 ≤ left = omega arith in

@@ -12,7 +12,7 @@ ghost use Rattle.backward_induction.specs.Solve.{solve as solution-with};
 ghost use Rattle.backward_induction.specs.Call.{solution};
 ghost use Rattle.backward_induction.specs.declared.Method.the-variants.{ChanceWeighted, Plain};
 ghost use Rattle.memo.specs.Memo.{rows, entry, actionCount, Sized, Within, labelsFrom, Along, solutionIn};
-ghost use Rattle.memo.specs.Visits.{Visits};
+ghost use Rattle.memo.specs.Visiting.{SolvesAs};
 ghost use Rattle.solver.specs.Held.{padded, held, heldFor};
 ghost use Rattle.entering.specs.Solving.{Asks, Lent, ToWeigh};
 use answer::Check;
@@ -52,7 +52,7 @@ fn solve_node(
     left: usize,
 ) -> Visit
     requires { ⌜ Asks method (now sheet) (now hints) (now links) (rows (now heads) (now payoffs)) left ⌝ }
-    ensures { λ v. ⌜ Visits method (now (sheet .entry)) (rows (now (heads .entry)) (now (payoffs .entry))) (rows (now (heads .exit)) (now (payoffs .exit))) left entity v ⌝ }
+    ensures { λ v. ⌜ SolvesAs method (now (sheet .entry)) (rows (now (heads .entry)) (now (payoffs .entry))) (rows (now (heads .exit)) (now (payoffs .exit))) left entity v ⌝ }
 {
     match entering::enter(sheet, hints, links, heads, payoffs, method, entity, left) {
         Entered::Done(v) => v,
@@ -108,7 +108,7 @@ fn solve_chance(
     left: usize,
 ) -> Visit
     requires { ⌜ Asks method (now sheet) (now hints) (now links) (rows (now heads) (now payoffs)) (left + 1) × NodeAt (now sheet) row entity × ToWeigh method (now sheet) entity ⌝ }
-    ensures { λ v. ⌜ Visits method (now (sheet .entry)) (rows (now (heads .entry)) (now (payoffs .entry))) (rows (now (heads .exit)) (now (payoffs .exit))) (left + 1) entity v ⌝ }
+    ensures { λ v. ⌜ SolvesAs method (now (sheet .entry)) (rows (now (heads .entry)) (now (payoffs .entry))) (rows (now (heads .exit)) (now (payoffs .exit))) (left + 1) entity v ⌝ }
 {
     let n = layout::row_count(sheet, 1);
     let mut sums = turns::no_sums();

@@ -3,12 +3,12 @@ ghost use mathlib.Core.Path.{_≡_};
 ghost use Prim.Native.Nat.{_+_, _≤_, _<_};
 ghost use lib.ListN.{length};
 ghost use Rattle.text.specs.Digits.{digit, lastDigits, digitCount, hexadecimal, decimal};
-ghost use Rattle.text.specs.Written.{written};
+ghost use Rattle.text.specs.Written.{written, Writes};
 
 // Bytes as they are.
 pub fn put(out: &mut [u8], at: usize, text: &[u8]) -> usize
     requires { ⌜ at + length (now text) ≤ length (now out) ⌝ }
-    ensures { λ r. ⌜ (r ≡ at + length (now (text .entry))) × (now (out .exit) ≡ written (now (out .entry)) at (now (text .entry))) ⌝ }
+    ensures { λ r. ⌜ Writes (now (out .entry)) at (now (text .entry)) (now (out .exit)) r ⌝ }
 {
     let mut i = 0;
     while i < text.len() {
@@ -67,7 +67,7 @@ fn digit_count(n: u64) -> usize
 // A number in decimal.
 pub fn put_decimal(out: &mut [u8], at: usize, n: u64) -> usize
     requires { ⌜ at + 20 ≤ length (now out) ⌝ }
-    ensures { λ r. ⌜ (r ≡ at + length (decimal n)) × (now (out .exit) ≡ written (now (out .entry)) at (decimal n)) ⌝ }
+    ensures { λ r. ⌜ Writes (now (out .entry)) at (decimal n) (now (out .exit)) r ⌝ }
 {
     put_digits(out, at, 10, digit_count(n), n)
 }

@@ -17,7 +17,7 @@ use Rattle.layout.specs.Layout.{rootOf, rowCount}
 use Rattle.sheet.specs.Meaning.{nodeRow, gameOf, opening, Opens}
 use Rattle.sheet.proofs.OpeningLaws.{opening-done, few-nodes}
 use Rattle.topology.specs.Topology.{targetsFault, walkFault, topologyFault, topology, checked}
-use Rattle.topology.specs.Marks.{Way, Marks, Visits}
+use Rattle.topology.specs.Marks.{Way, Marks, WalksAs}
 use Rattle.topology.proofs.PathLaws.{in-nil, fresh-none}
 
 node-count : (s : List ℕ) → length (gameOf s .nodes) ≡ rowCount s 0
@@ -67,7 +67,7 @@ module _ (s : List ℕ) where
       call-targets r p = answers t (refused-first t _ _ says r p)
 
       pub call-walks : t ≡ Passed → (v : Check) (after : List ℕ) (n root : ℕ) → n ≡ rowCount s 0 → root ≡ rootOf s
-          → Visits s (n + 1) root (replicate 1024 0) v after → checked v ≡ topology s
+          → WalksAs s (n + 1) root (replicate 1024 0) v after → checked v ≡ topology s
       unfolding topologyFault
       call-walks p v after n root en er visits = answers v (walked ∙ passed-first t _ _ says p)
         where

@@ -26,7 +26,7 @@ use Rattle.sheet.specs.Found.{NodeAt}
 use Rattle.topology.specs.declared.Entered.{Entered}
 use Rattle.topology.specs.declared.Entered.the-variants.{Done, New}
 use Rattle.topology.specs.Topology.{isIn, missing, kindFault, walkFault}
-use Rattle.topology.specs.Marks.{Way, Marks, Visit, Visits, Ready, Enters}
+use Rattle.topology.specs.Marks.{Way, Marks, WalkedAs, WalksAs, Ready, Enters}
 use Rattle.topology.proofs.WalkLaws.{not-missing, walk-cycle, walk-missing, walk-kind, walk-below, way-on, walk-sound, sound-walk}
 use Rattle.topology.proofs.ChildrenLeft.{childrenLeft, left-all, left-child, left-none, left-skips, left-gives}
 use Rattle.topology.proofs.MarkLaws.{mark-visiting, mark-visited}
@@ -35,19 +35,19 @@ use Rattle.topology.proofs.MarkLaws.{mark-visiting, mark-visited}
 module _ (s : List ℕ) (left e : ℕ) (marks : List ℕ) where
   -- a refusal that is the walk's on each path
   refused-by : (v : Check) (after : List ℕ) (r : Refusal) → faultOf v ≡ some r
-      → ((path : List ℕ) → Way (gameOf s) left path e → Marks s path marks → walkFault (gameOf s) left path e ≡ some r) → Visits s left e marks v after
+      → ((path : List ℕ) → Way (gameOf s) left path e → Marks s path marks → walkFault (gameOf s) left path e ≡ some r) → WalksAs s left e marks v after
   refused-by v after r p same path way m =
       record { fault = p ∙ sym (same path way m); kept = λ q. absurd (Option·some-ne-none r (sym p ∙ q)) }
 
   -- no depth is left: there is no such path
-  pub visit-spent : (v : Check) (after : List ℕ) → left ≡ 0 → Visits s left e marks v after
+  pub visit-spent : (v : Check) (after : List ℕ) → left ≡ 0 → WalksAs s left e marks v after
   visit-spent v after p path way m = absurd (omega (arith, way .deep))
 
 module _ (s : List ℕ) (left d e : ℕ) (marks : List ℕ) (deep : left ≡ suc d) where
   at-depth : (path : List ℕ) (f : Fault) → walkFault (gameOf s) (suc d) path e ≡ f → walkFault (gameOf s) left path e ≡ f
   at-depth path f p = ap (λ k. walkFault (gameOf s) k path e) deep ∙ p
 
-  pub visit-missing : (v : Check) (after : List ℕ) → missing (gameOf s) e ≡ some (missingNode e) → faultOf v ≡ some (missingNode e) → Visits s left e marks v after
+  pub visit-missing : (v : Check) (after : List ℕ) → missing (gameOf s) e ≡ some (missingNode e) → faultOf v ≡ some (missingNode e) → WalksAs s left e marks v after
   visit-missing v after q p =
       refused-by s left e marks v after (missingNode e) p
       (λ path way m. at-depth path _ (walk-missing (gameOf s) d path e (outside path way (isIn e path) refl) _ q))
@@ -63,12 +63,12 @@ module _ (s : List ℕ) (left d e : ℕ) (marks : List ℕ) (deep : left ≡ suc
     on-path : (path : List ℕ) → Marks s path marks → isIn e path ≡ eqb (getD marks row 0) 1
     on-path path m = ap (λ x. isIn x path) (sym (node .entity)) ∙ m .visiting row (node .here)
 
-    pub visit-cycle : (v : Check) (after : List ℕ) → getD marks row 0 ≡ 1 → faultOf v ≡ some (cycleDetected e) → Visits s left e marks v after
+    pub visit-cycle : (v : Check) (after : List ℕ) → getD marks row 0 ≡ 1 → faultOf v ≡ some (cycleDetected e) → WalksAs s left e marks v after
     visit-cycle v after q p =
         refused-by s left e marks v after (cycleDetected e) p
         (λ path way m. at-depth path _ (walk-cycle (gameOf s) d path e (on-path path m ∙ eq-eqb _ 1 q)))
 
-    pub visit-again : getD marks row 0 ≡ 2 → Visits s left e marks Passed marks
+    pub visit-again : getD marks row 0 ≡ 2 → WalksAs s left e marks Passed marks
     visit-again q path way m =
         record {
           fault = sym (sound-walk (gameOf s) (rw (node .entity) at (m .visited row (node .here) q)) left path way);
@@ -84,7 +84,7 @@ module _ (s : List ℕ) (left d e : ℕ) (marks : List ℕ) (deep : left ≡ suc
         says-kind : faultOf v ≡ kindFault (gameOf s) e (kindOf (gameOf s) e)
         says-kind = says ∙ ap (λ (x : Node). kindFault (gameOf s) e (some (x .kind))) read ∙ ap (kindFault (gameOf s) e) (sym (node .kind))
 
-        pub visit-kind : (after : List ℕ) (r : Refusal) → v ≡ Refused r → Visits s left e marks v after
+        pub visit-kind : (after : List ℕ) (r : Refusal) → v ≡ Refused r → WalksAs s left e marks v after
         visit-kind after r p =
             refused-by s left e marks v after r (ap faultOf p)
             (λ path way m. at-depth path _ (walk-kind (gameOf s) d path e (off-path path m) is-node r (sym says-kind ∙ ap faultOf p)))
@@ -94,7 +94,7 @@ module _ (s : List ℕ) (left d e : ℕ) (marks : List ℕ) (deep : left ≡ suc
 
 -- ---- an entity that was entered
 module _ (s : List ℕ) (left e : ℕ) (marks : List ℕ) (v : Entered) (enters : Enters s left e marks v) where
-  pub entered-done : (w : Check) → v ≡ Done w → Visits s left e marks w marks
+  pub entered-done : (w : Check) → v ≡ Done w → WalksAs s left e marks w marks
   entered-done w p = rw p at enters
 
   pub entered-new : (row : ℕ) → v ≡ New row → Ready s left e marks row
@@ -129,12 +129,12 @@ module _ (s : List ℕ) (d e n : ℕ) (counted : n ≡ rowCount s 1) (start : Li
         let t = turns path ways m in
         record { fault = t .fault ∙ ap (faultBelow s d e path) (left-skips s e n i child within says p); marks = t .marks }
 
-    module _ (c : ℕ) (own : child ≡ Of c) (v : Check) (after : List ℕ) (visits : Visits s d c now v after) where
+    module _ (c : ℕ) (own : child ≡ Of c) (v : Check) (after : List ℕ) (visits : WalksAs s d c now v after) where
       next-below : (path : List ℕ) → Ways s d e path → Marks s (e ∷ path) start
           → faultBelow s d e path (childrenOf e (gameOf s .children)) ≡ faultBelow s d e path (c ∷ childrenLeft s e n (i + 1))
       next-below path ways m = turns path ways m .fault ∙ ap (faultBelow s d e path) (left-gives s e n i child within says c own)
 
-      visited-child : (path : List ℕ) → Ways s d e path → Marks s (e ∷ path) start → Visit s d (e ∷ path) c v after
+      visited-child : (path : List ℕ) → Ways s d e path → Marks s (e ∷ path) start → WalkedAs s d (e ∷ path) c v after
       visited-child path ways m = visits (e ∷ path) (ways c (left-child s e n counted i c child within says own)) (turns path ways m .marks)
 
       pub turns-go : v ≡ Passed → Turns s d e n start (i + 1) after
@@ -173,7 +173,7 @@ module _ (s : List ℕ) (left d e : ℕ) (marks : List ℕ) (row n : ℕ) (x : W
 
   module _ (i : ℕ) (now : List ℕ) (turns : Turns s d e n (set marks row 1) i now) where
     pub visit-stops : (child : Child) → i < n → childOf child ≡ childIn e (childRow s i) → (c : ℕ) → child ≡ Of c
-        → (v : Check) (after : List ℕ) → Visits s d c now v after → (r : Refusal) → v ≡ Refused r → Visits s left e marks v after
+        → (v : Check) (after : List ℕ) → WalksAs s d c now v after → (r : Refusal) → v ≡ Refused r → WalksAs s left e marks v after
     visit-stops child within says c own v after visits r p =
         refused-by s left e marks v after r (ap faultOf p)
         (λ path way m.
@@ -181,7 +181,7 @@ module _ (s : List ℕ) (left d e : ℕ) (marks : List ℕ) (row n : ℕ) (x : W
         (λ out walks ways start.
         walks ∙ turns-stop s d e n (x .counted) (set marks row 1) i now turns child within says c own v after visits r p path ways start))
 
-    pub visit-ends : n ≤ i → Visits s left e marks Passed (set now row 2)
+    pub visit-ends : n ≤ i → WalksAs s left e marks Passed (set now row 2)
     visit-ends l path way m =
         walked-below path way m
         (λ out walks ways start.

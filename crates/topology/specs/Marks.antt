@@ -46,13 +46,13 @@ pub record Marks (s path marks : List ℕ) : Type 0 where
   pub visited : (i : ℕ) → i < rowCount s 0 → getD marks i 0 ≡ 2 → Sound (gameOf s) (field s 0 i 0)
 
 -- what a visit of e answers, and what marks it leaves where it finds no fault
-pub record Visit (s : List ℕ) (depth : ℕ) (path : List ℕ) (e : ℕ) (v : Check) (marks : List ℕ) : Type 0 where
+pub record WalkedAs (s : List ℕ) (depth : ℕ) (path : List ℕ) (e : ℕ) (v : Check) (marks : List ℕ) : Type 0 where
   pub fault : faultOf v ≡ walkFault (gameOf s) depth path e
   pub kept : faultOf v ≡ none → Marks s path marks
 
 -- so it does on every path that the marks at its start stand for
-abbrev pub Visits : List ℕ → ℕ → ℕ → List ℕ → Check → List ℕ → Type 0
-Visits s depth e marks v after = (path : List ℕ) → Way (gameOf s) depth path e → Marks s path marks → Visit s depth path e v after
+abbrev pub WalksAs : List ℕ → ℕ → ℕ → List ℕ → Check → List ℕ → Type 0
+WalksAs s depth e marks v after = (path : List ℕ) → Way (gameOf s) depth path e → Marks s path marks → WalkedAs s depth path e v after
 
 -- a node whose children are left to walk: there is depth left, it is on no path that the marks stand for, and its kind has no fault
 pub record Ready (s : List ℕ) (depth e : ℕ) (marks : List ℕ) (row : ℕ) : Type 0 where
@@ -63,5 +63,5 @@ pub record Ready (s : List ℕ) (depth e : ℕ) (marks : List ℕ) (row : ℕ) :
 
 -- what entering e says: a visit that changes no mark, or the row from which its children are left to walk
 abbrev pub Enters : List ℕ → ℕ → ℕ → List ℕ → Entered → Type 0
-Enters s depth e marks (Entering.Done v) = Visits s depth e marks v marks
+Enters s depth e marks (Entering.Done v) = WalksAs s depth e marks v marks
 Enters s depth e marks (Entering.New row) = Ready s depth e marks row

@@ -8,7 +8,7 @@ ghost use Rattle.lookup.specs.Hints.{Noted};
 ghost use Rattle.graph_relations.specs.Relations.{childrenOf};
 ghost use Rattle.sheet.specs.Meaning.{gameOf};
 ghost use Rattle.topology.specs.Topology.{missing, targetsFault, anyChance, kindFault, topology, checked};
-ghost use Rattle.topology.specs.Marks.{Visits, Enters};
+ghost use Rattle.topology.specs.Marks.{WalksAs, Enters};
 use answer::Check;
 use answer::refuse;
 use game::Kind;
@@ -149,7 +149,7 @@ fn validate_reachable_node(
     marks: &mut [u8; 1024],
 ) -> Check
     requires { ⌜ Noted (now sheet) (now hints) ⌝ }
-    ensures { λ r. ⌜ Visits (now (sheet .entry)) left entity (now (marks .entry)) r (now (marks .exit)) ⌝ }
+    ensures { λ r. ⌜ WalksAs (now (sheet .entry)) left entity (now (marks .entry)) r (now (marks .exit)) ⌝ }
 {
     let entered = enter(sheet, hints, entity, left, marks);
     match entered {

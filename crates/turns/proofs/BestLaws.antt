@@ -7,7 +7,7 @@ use lib.ListN.{getD}
 use Rattle.backward_induction.specs.declared.Method.{Method}
 use Rattle.backward_induction.specs.Solve.{taken}
 use Rattle.memo.specs.Memo.{Entry, actionCount, payoffCount, Sized, Rows, entry, stored, Filled, Memo}
-use Rattle.memo.specs.Visits.{Keeps}
+use Rattle.memo.specs.Visiting.{Keeps}
 use Rattle.turns.specs.declared.Reply.{Reply as Candidate}
 use Rattle.turns.specs.Replies.{replyIn, Extendable}
 

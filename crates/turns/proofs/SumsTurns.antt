@@ -24,7 +24,7 @@ use Rattle.backward_induction.proofs.Bounds.{products-length}
 use Rattle.memo.specs.declared.Visit.{Visit}
 use Rattle.memo.specs.declared.Visit.the-variants.{Solved, Refused}
 use Rattle.memo.specs.Memo.{Rows, stored}
-use Rattle.memo.specs.Visits.{KeptAs}
+use Rattle.memo.specs.Visiting.{KeptAs}
 use Rattle.turns.specs.declared.Sums.{Sums}
 use Rattle.turns.specs.Sums.{cells, Sized, Holds, outcomeFault, SettledAs, weighedUp}
 use Rattle.turns.proofs.Overwrite.{length-zipWith, map-take}

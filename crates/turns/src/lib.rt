@@ -13,7 +13,7 @@ ghost use Rattle.backward_induction.specs.Solve.{taken, products};
 ghost use Rattle.backward_induction.specs.Turns.{addedTo};
 ghost use Rattle.backward_induction.specs.declared.Method.{Method};
 ghost use Rattle.memo.specs.Memo.{rows, entry, payoffsOf, PayoffRoom, Within, Filled, Memo, Tells, solutionAt};
-ghost use Rattle.memo.specs.Visits.{Keeps, KeptAs};
+ghost use Rattle.memo.specs.Visiting.{Keeps, KeptAs};
 ghost use Rattle.turns.specs.Replies.{replyIn, leadIn, decided, betterOf, KeptIn, Replied, Extendable, ExtendableBest};
 ghost use Rattle.turns.specs.Sums.{weighedUp, cells, Sized, Holds, outcomeFault, SettledAs};
 use answer::Check;

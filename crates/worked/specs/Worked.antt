@@ -9,7 +9,7 @@ use Rattle.game.specs.declared.Kind.the-variants as Kinds
 use Rattle.game.specs.declared.Node.{Node}
 use Rattle.game.specs.declared.ActionEdge.{ActionEdge}
 use Rattle.game.specs.Game.{Game, Chance, TerminalUtility}
-use Rattle.worked.specs.Written.{u32s, f64s, written}
+use Rattle.worked.specs.Written.{u32s, f64s, sheetBytes}
 
 -- ---- bit patterns of the f64s
 abbrev pub half : ℕ
@@ -84,7 +84,7 @@ text = openText ++ (waitText ++ (highText ++ lowText))
 
 -- the sheet with these child rows and transition rows
 unfoldable pub sheetWith : List ℕ → List ℕ → List ℕ
-sheetWith childRows transitionRows = written 1 (nodes ∷ childRows ∷ actions ∷ chances ∷ transitionRows ∷ terminals ∷ payoffs ∷ [] ∷ labels ∷ text ∷ [])
+sheetWith childRows transitionRows = sheetBytes 1 (nodes ∷ childRows ∷ actions ∷ chances ∷ transitionRows ∷ terminals ∷ payoffs ∷ [] ∷ labels ∷ text ∷ [])
 
 -- the worked sheet, 399 bytes
 unfoldable pub worked : List ℕ

@@ -25,5 +25,5 @@ joined [] = []
 joined (s ∷ ss) = s ++ joined ss
 
 -- edition 1
-unfoldable pub written : ℕ → List (List ℕ) → List ℕ
-written root sections = mark ++ (bytesOf 2 1 ++ (bytesOf 2 0 ++ (bytesOf 4 root ++ (pairs 92 sections ++ joined sections))))
+unfoldable pub sheetBytes : ℕ → List (List ℕ) → List ℕ
+sheetBytes root sections = mark ++ (bytesOf 2 1 ++ (bytesOf 2 0 ++ (bytesOf 4 root ++ (pairs 92 sections ++ joined sections))))

@@ -1,16 +1,17 @@
 -- The cases that 01 marks P, each from a sheet's bytes: what the definitions give, and what 01 says. A case is an answer of any operation, as a refusal or a list of u64s. Definitions only.
 use Prim.Native.Nat.{ℕ}
 use mathlib.Core.Path.{_≡_}
-use mathlib.Core.List.{List, [], _∷_, _++_, map}
+use mathlib.Core.List.{List, [], _∷_, _++_, map, flatMap}
 use mathlib.Core.Option.{Option, none, some}
 use lib.ListN.{length}
 use Rattle.number.specs.Number.{toBits}
 use Rattle.number.specs.Meaning.{meaning}
 use Rattle.answer.specs.Answer.{Answer, refused, done, _>>=_}
 use Rattle.answer.specs.Refusals.{missingNode, missingTransition, noOutgoingActions, unsupportedChanceNode, depthSpent, limitAbove}
+use Rattle.game.specs.Game.{labelText}
+use Rattle.sheet.specs.Meaning.{gameOf}
 use Rattle.backward_induction.specs.declared.Method.{Method}
 use Rattle.backward_induction.specs.declared.Method.the-variants.{ChanceWeighted, Plain}
-use Rattle.backward_induction.specs.Solve.{Solution}
 use Rattle.backward_induction.specs.Call.{solution}
 use Rattle.paths.specs.Listing.{listing}
 use Rattle.topology.specs.Topology.{topology}
@@ -18,7 +19,7 @@ use Rattle.kuhn.specs.declared.CfrVariant.{CfrVariant}
 use Rattle.kuhn.specs.declared.CfrVariant.the-variants.{Vanilla, CfrPlus, LinearCfr}
 use Rattle.kuhn.specs.Solve.{kuhn}
 use Rattle.worked.specs.Written.{u32s}
-use Rattle.worked.specs.Worked.{half, two, three, children, transitions, sheetWith, worked}
+use Rattle.worked.specs.Worked.{half, two, three, openText, waitText, children, transitions, sheetWith, worked}
 
 pub record Case : Type 0 where
   pub number : ℕ
@@ -28,25 +29,26 @@ pub record Case : Type 0 where
 abbrev case : ℕ → Answer (List ℕ) → Answer (List ℕ) → Case
 case p got want = record { number = p; got = got; want = want }
 
--- ---- a solution as u64s: 1 and the terminal, or 0 and 0; the actions with their count in front; the payoffs' bits with theirs
+-- ---- a solution as u64s: 1 and the terminal, or 0 and 0; the actions' label texts, each with its length in front, and their count before them; the
+-- payoffs' bits with theirs
 
 abbrev pub endingWords : Option ℕ → List ℕ
 endingWords none = 0 ∷ 0 ∷ []
 endingWords (some e) = 1 ∷ e ∷ []
 
-abbrev pub solutionWords : Solution → List ℕ
-solutionWords x = endingWords (x .terminal) ++ (length (x .actions) ∷ (x .actions ++ (length (x .payoffs) ∷ map toBits (x .payoffs))))
+abbrev pub counted : List ℕ → List ℕ
+counted xs = length xs ∷ xs
+
+-- terminal, label texts, payoffs
+abbrev pub says : Option ℕ → List (List ℕ) → List ℕ → Answer (List ℕ)
+says t texts bits = done (endingWords t ++ (length texts ∷ (flatMap counted texts ++ counted bits)))
 
 -- a solve from a sheet's bytes, a start and a limit
 unfoldable pub solved : Method → List ℕ → ℕ → ℕ → Answer (List ℕ)
-solved method s start limit = solution method s start limit >>= λ x. done (solutionWords x)
+solved method s start limit = solution method s start limit >>= λ x. says (x .terminal) (map (labelText (gameOf s)) (x .actions)) (map toBits (x .payoffs))
 
 abbrev solves : List ℕ → ℕ → ℕ → Answer (List ℕ)
 solves s start limit = solved ChanceWeighted s start limit
-
--- terminal, labels, payoffs
-abbrev pub says : Option ℕ → List ℕ → List ℕ → Answer (List ℕ)
-says t labels bits = done (endingWords t ++ (length labels ∷ (labels ++ (length bits ∷ bits))))
 
 -- the topology check answers nothing
 unfoldable pub validated : List ℕ → Answer (List ℕ)
@@ -66,14 +68,14 @@ swapped = sheetWith (u32s (11 ∷ 1 ∷ []) ++ (u32s (10 ∷ 1 ∷ []) ++ (u32s 
 unfoldable pub unlinked : List ℕ
 unlinked = sheetWith children (u32s (10 ∷ 2 ∷ []) ++ (u32s (12 ∷ 4 ∷ []) ++ u32s (13 ∷ 5 ∷ [])))
 
--- ---- the cases. Labels: 0 "open", 1 "wait". The paths have a buffer of 1,000 u64s.
+-- ---- the cases. The paths have a buffer of 1,000 u64s.
 unfoldable pub cases : List Case
 cases =
-    case 1 (solves worked 1 0) (says none (0 ∷ []) (two ∷ three ∷ []))
-    ∷ case 2 (solves swapped 1 0) (says (some 3) (1 ∷ []) (two ∷ two ∷ []))
+    case 1 (solves worked 1 0) (says none (openText ∷ []) (two ∷ three ∷ []))
+    ∷ case 2 (solves swapped 1 0) (says (some 3) (waitText ∷ []) (two ∷ two ∷ []))
     ∷ case 3 (solves worked 1 1) (refused (depthSpent 2))
     ∷ case 4 (solves worked 1 2) (refused (depthSpent 4))
-    ∷ case 5 (solves worked 1 3) (says none (0 ∷ []) (two ∷ three ∷ []))
+    ∷ case 5 (solves worked 1 3) (says none (openText ∷ []) (two ∷ three ∷ []))
     ∷ case 6 (solved Plain worked 1 0) (refused (unsupportedChanceNode 2))
     ∷ case 7 (listing worked 1 0 1000) (refused (noOutgoingActions 2))
     ∷ case 8 (validated worked) (refused (missingNode 10))

@@ -87,7 +87,7 @@ fn run(mut bench: Bench) -> Done<bool> {
         part(&mut bench)?;
     }
     bench.report.baseline(bench.budget);
-    tables::stacks()?;
+    tables::stacks(&mut bench)?;
     tables::noise(&mut bench);
     Ok(bench.report.print_goals())
 }

@@ -15,27 +15,28 @@ use std::thread;
 /// The thread's stack.
 const STACK: usize = 4 << 20;
 
-/// The sheets that take each call deepest: case, sheet, rows, call.
-pub fn cases() -> Vec<(&'static str, &'static str, Draft, Call)> {
+/// The sheets that take each call deepest: case, sheet, the KB that include/kgs.h states, rows, call.
+pub fn cases() -> Vec<(&'static str, &'static str, u64, Draft, Call)> {
     let [solve, plain] = [Call::Solve { start: 1, limit: 64 }, Call::SolvePlain { start: 1, limit: 64 }];
     let paths = Call::Paths { start: 1, limit: 64, room: AMPLE };
     let kuhn = |variant| Call::Kuhn { variant, iterations: 100 };
     vec![
-        ("solve", "63 decisions and a terminal", chain(63, Kinds::Decisions), solve),
-        ("solve, chance in turn", "63 levels and a terminal", chain(63, Kinds::InTurn), solve),
-        ("plain", "63 decisions and a terminal", chain(63, Kinds::Decisions), plain),
-        ("paths", "63 levels of one edge", made(|maker| maker.chain(63, 1, Kinds::Decisions)), paths),
-        ("sets", "1,023 sets", sets_of(1_023, 1, 1_023, 2, 2_000), Call::Sets { room: AMPLE }),
-        ("topology", "a chain of 1,024 nodes", longest_walk(), Call::Topology),
+        ("solve", "63 decisions and a terminal", 256, chain(63, Kinds::Decisions), solve),
+        ("solve, chance in turn", "63 levels and a terminal", 256, chain(63, Kinds::InTurn), solve),
+        ("plain", "63 decisions and a terminal", 256, chain(63, Kinds::Decisions), plain),
+        ("paths", "63 levels of one edge", 96, made(|maker| maker.chain(63, 1, Kinds::Decisions)), paths),
+        ("sets", "1,023 sets", 32, sets_of(1_023, 1, 1_023, 2, 2_000), Call::Sets { room: AMPLE }),
+        ("topology", "a chain of 1,024 nodes", 384, longest_walk(), Call::Topology),
         (
             "opening alone",
             "64 KB, rows shuffled",
+            384,
             refused_last(arranged(keyed_rows(1 << 16), Order::Shuffled)),
             Call::Topology,
         ),
-        ("Kuhn, Vanilla", "none", Draft::default(), kuhn(Variant::Vanilla)),
-        ("Kuhn, CfrPlus", "none", Draft::default(), kuhn(Variant::CfrPlus)),
-        ("Kuhn, LinearCfr", "none", Draft::default(), kuhn(Variant::LinearCfr)),
+        ("Kuhn, Vanilla", "none", 16, Draft::default(), kuhn(Variant::Vanilla)),
+        ("Kuhn, CfrPlus", "none", 16, Draft::default(), kuhn(Variant::CfrPlus)),
+        ("Kuhn, LinearCfr", "none", 16, Draft::default(), kuhn(Variant::LinearCfr)),
     ]
 }
 

@@ -156,12 +156,13 @@ pub fn kuhn(bench: &mut Bench) -> Done<()> {
 }
 
 /// The stack that each call needs on the sheet that takes it deepest.
-pub fn stacks() -> Done<()> {
-    table("Stack", ["call", "sheet", "KB"]);
+pub fn stacks(bench: &mut Bench) -> Done<()> {
+    table("Stack", ["call", "sheet", "KB", "goal"]);
     let empty = stack::deepest("an empty call")?;
-    for (case, sheet, ..) in stack::cases() {
-        let need = empty - stack::deepest(case)?;
-        row([case.to_owned(), sheet.to_owned(), grouped(need.div_ceil(1 << 10) as u64)]);
+    for (case, sheet, stated, ..) in stack::cases() {
+        let need = (empty - stack::deepest(case)?).div_ceil(1 << 10) as u64;
+        let met = bench.report.goal(&format!("{case}, KB of stack"), need as f64, stated as f64);
+        row([case.to_owned(), sheet.to_owned(), grouped(need), format!("{stated}: {met}")]);
     }
     Ok(())
 }

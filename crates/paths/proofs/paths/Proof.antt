@@ -2,7 +2,7 @@
 use native.Mathlib.Omega.{arith}
 use borrow.Author.Needs.{needs}
 use Rattle.sheet.proofs.OpeningLaws.{passed-opens, refused-opening}
-use Rattle.backward_induction.proofs.CallLaws.{default-depth, own-depth}
+use Rattle.sheet.proofs.LimitLaws.{default-depth, own-depth}
 use Rattle.paths.proofs.CallLaws.{limit-first, opening-next, then-listed}
 use Rattle.paths.proofs.paths.Statement.{statement}
 use Rattle.paths.proofs.paths.Tie as tie

@@ -7,7 +7,7 @@ use borrow.Author.Needs.{needs}
 use lib.ListN.{length, take}
 use Rattle.sheet.specs.Meaning.{gameOf}
 use Rattle.report.specs.Report.{actionLine}
-use Rattle.report.specs.Writes.{Writes}
+use Rattle.text.specs.Written.{Writes}
 use Rattle.report.proofs.LineLaws.{lines-most, lines-none, lines-next, lines-all, action-most}
 use Rattle.report.proofs.put_actions.Statement.{statement}
 use Rattle.report.proofs.put_actions.Tie as tie

@@ -9,7 +9,7 @@ use lib.Ieee.{Float}
 use lib.ListN.{length-map, List·getD-map, length, take}
 use Rattle.number.specs.Meaning.{meaning}
 use Rattle.report.specs.Report.{payoffLine}
-use Rattle.report.specs.Writes.{Writes}
+use Rattle.text.specs.Written.{Writes}
 use Rattle.report.proofs.HeldLaws.{payoff-finite}
 use Rattle.report.proofs.LineLaws.{lines-most, lines-none, lines-next, lines-all, payoff-length}
 use Rattle.report.proofs.put_payoffs.Statement.{statement}

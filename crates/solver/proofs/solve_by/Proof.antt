@@ -6,12 +6,12 @@ use native.Mathlib.Omega.{arith}
 use borrow.Author.Needs.{needs}
 use Rattle.answer.specs.Fault.{faultOf}
 use Rattle.sheet.specs.Meaning.{gameOf}
+use Rattle.sheet.specs.Limit.{depthOf}
 use Rattle.sheet.proofs.OpeningLaws.{passed-opens, refused-opening}
+use Rattle.sheet.proofs.LimitLaws.{default-depth, own-depth}
 use Rattle.backward_induction.specs.Solve.{solve}
-use Rattle.backward_induction.specs.Call.{depthOf}
 use Rattle.solver.specs.Held.{heldFor}
-use Rattle.backward_induction.proofs.CallLaws.{default-depth, own-depth}
-use Rattle.solver.proofs.CallLaws.{call-above, call-unopened, call-opened}
+use Rattle.backward_induction.proofs.CallLaws.{call-above, call-unopened, call-solves}
 use Rattle.solver.proofs.solve_by.Statement.{statement}
 use Rattle.solver.proofs.solve_by.Tie as tie
 
@@ -72,7 +72,7 @@ returns-3 c =
     let o = after-open .open in
     let opens = passed-opens (a .sheet .now) (o .result) (o .ensures) (after-enum-told2 .enum-told2 .given .1) in
     let depth : joined2 .if2 .depth ≡ depthOf (a .limit) = ⊎-elim (λ w. w .1 ∙ default-depth (a .limit) (w .0 .taken)) (λ w. w .1 ∙ own-depth (a .limit) (w .0 .left)) (joined2 .if2 .came) in
-    c .solve-to .ensures ∙ ap heldFor (ap (λ (d : ℕ). solve (a .method) (gameOf (a .sheet .now)) d (a .start)) depth ∙ sym (call-opened (a .method) (a .sheet .now) (a .start) (a .limit) (else1 .if1 .left) opens))
+    c .solve-to .ensures ∙ ap heldFor (ap (λ (d : ℕ). solve (a .method) (gameOf (a .sheet .now)) d (a .start)) depth ∙ sym (call-solves (a .method) (a .sheet .now) (a .start) (a .limit) (else1 .if1 .left) opens))
 
 pub solve-by-spec : {M : Type 1} → statement M
 solve-by-spec =

@@ -3,7 +3,7 @@ use mathlib.Core.Path.{refl, sym, ap, subst, _∙_}
 use borrow.Author.Needs.{needs}
 use Rattle.answer.specs.Answer.{done}
 use Rattle.memo.specs.Memo.{rows}
-use Rattle.memo.specs.Visits.{Visited}
+use Rattle.memo.specs.Visiting.{SolvedAs}
 use Rattle.memo.proofs.MemoLaws.{rows-along, solution-in}
 use Rattle.solver.specs.Held.{heldFor}
 use Rattle.solver.proofs.ReplyWalk.{solved-target}
@@ -33,7 +33,7 @@ solution-at-requires c κs =
     let a = c .before .before .before .before .before .before .before .before .before .before .before .before .before .before .before .before .before .before .before .before .before .before .before .before .args in
     let n = c .before .before .before .before .before .before .before .solve-node in
     let memo = n .ensures .memo in
-    let w = subst (Visited (a .method) (a .sheet .now) (rows (n .last .1 .1 .1 .0) (n .last .1 .1 .1 .1 .0)) (a .depth) (a .start)) (c .before .before .before .v2 .given .1) (n .ensures .visited) in
+    let w = subst (SolvedAs (a .method) (a .sheet .now) (rows (n .last .1 .1 .1 .0) (n .last .1 .1 .1 .1 .0)) (a .depth) (a .start)) (c .before .before .before .v2 .given .1) (n .ensures .visited) in
     (memo .within _ (w .filled .row), memo .right _ (w .filled) .stands .sized, rows-along memo _ (w .filled))
 
 same-length : tie.Need-same-length
@@ -52,7 +52,7 @@ returns : tie.Need-returns
 returns c =
     let a = c .before .before .before .before .before .before .before .before .before .before .before .before .before .before .before .before .before .before .before .before .before .before .before .args in
     let n = c .before .before .before .before .before .before .solve-node in
-    c .refused-answer .ensures _ refl ∙ ap heldFor (sym (subst (Visited (a .method) (a .sheet .now) (rows (n .last .1 .1 .1 .0) (n .last .1 .1 .1 .1 .0)) (a .depth) (a .start)) (c .before .before .v .given .1) (n .ensures .visited)))
+    c .refused-answer .ensures _ refl ∙ ap heldFor (sym (subst (SolvedAs (a .method) (a .sheet .now) (rows (n .last .1 .1 .1 .0) (n .last .1 .1 .1 .1 .0)) (a .depth) (a .start)) (c .before .before .v .given .1) (n .ensures .visited)))
 
 same-length-5 : tie.Need-same-length-5
 same-length-5 c = c .before .before .before .before .before .before .before .before .before .before .before .before .before .before .before .before .before .before .before .before .note-rows .kept .1 .0
@@ -71,7 +71,7 @@ returns-2 c =
     let a = c .before .before .before .before .before .before .before .before .before .before .before .before .before .before .before .before .before .before .before .before .before .before .before .before .before .args in
     let n = c .before .before .before .before .before .before .before .before .solve-node in
     let m = rows (n .last .1 .1 .1 .0) (n .last .1 .1 .1 .1 .0) in
-    let w = subst (Visited (a .method) (a .sheet .now) m (a .depth) (a .start)) (c .before .before .before .before .v2 .given .1) (n .ensures .visited) in
+    let w = subst (SolvedAs (a .method) (a .sheet .now) m (a .depth) (a .start)) (c .before .before .before .before .v2 .given .1) (n .ensures .visited) in
     c .solution-at .ensures ∙ ap heldFor (ap done (solution-in {m = m} (n .ensures .memo) _ (w .filled)) ∙ sym (solved-target m (n .ensures .memo) w (a .depth) (w .near)))
 
 pub solve-in-spec : {M : Type 1} → statement M

@@ -1,6 +1,6 @@
 //! The calls beside the solve: paths, sets, topology, Kuhn.
 
-use super::{paths_in, worked, List, SOLVE};
+use super::{changed, paths_in, worked, List, SOLVE};
 use crate::answer::{Call, VARIANTS};
 use crate::draft::{field, row, set_field, Draft, Row};
 use crate::sheet::*;
@@ -141,9 +141,7 @@ fn plain_tree() -> Draft {
 
 /// The tree with something changed about it.
 fn tree_but(change: impl FnOnce(&mut Draft)) -> Vec<u8> {
-    let mut draft = plain_tree();
-    change(&mut draft);
-    draft.encode()
+    changed(plain_tree(), change)
 }
 
 /// What the topology check passes, and what it refuses before it walks.

@@ -129,9 +129,13 @@ fn worked() -> Draft {
     draft
 }
 
-/// 01's small sheet with something changed about it.
-fn but(change: impl FnOnce(&mut Draft)) -> Vec<u8> {
-    let mut draft = worked();
+/// A sheet with something changed about it.
+fn changed(mut draft: Draft, change: impl FnOnce(&mut Draft)) -> Vec<u8> {
     change(&mut draft);
     draft.encode()
+}
+
+/// 01's small sheet with something changed about it.
+fn but(change: impl FnOnce(&mut Draft)) -> Vec<u8> {
+    changed(worked(), change)
 }

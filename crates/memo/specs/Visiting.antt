@@ -18,15 +18,15 @@ pub record SolvedIn (s : List ℕ) (m : Rows) (left e i : ℕ) : Type 0 where
   pub near : height (entry m i) ≤ left
 
 -- a visit of the node e with so much depth left
-abbrev pub Visited : Method → List ℕ → Rows → ℕ → ℕ → Visit → Type 0
-Visited method s m left e (Solved i) = SolvedIn s m left e i
-Visited method s m left e (Refused r) = solve method (gameOf s) left e ≡ refused r
+abbrev pub SolvedAs : Method → List ℕ → Rows → ℕ → ℕ → Visit → Type 0
+SolvedAs method s m left e (Solved i) = SolvedIn s m left e i
+SolvedAs method s m left e (Refused r) = solve method (gameOf s) left e ≡ refused r
 
 -- a visit that takes the memo m to m′
-pub record Visits (method : Method) (s : List ℕ) (m m′ : Rows) (left e : ℕ) (v : Visit) : Type 0 where
+pub record SolvesAs (method : Method) (s : List ℕ) (m m′ : Rows) (left e : ℕ) (v : Visit) : Type 0 where
   pub memo : Memo method s m′
   pub extends : Extends m m′
-  pub visited : Visited method s m′ left e v
+  pub visited : SolvedAs method s m′ left e v
 
 -- the solution x is kept in a row, with that height
 pub record Keeps (method : Method) (s : List ℕ) (m m′ : Rows) (row depth : ℕ) (x : Solution) : Type 0 where
