@@ -93,7 +93,7 @@ fn has_terminal(ending: Ending) -> u64
 {
     match ending {
         Ending::Terminal(_) => 1,
-        Ending::Open => 0,
+        Ending::None => 0,
     }
 }
 
@@ -102,7 +102,7 @@ fn terminal_of(ending: Ending) -> u64
 {
     match ending {
         Ending::Terminal(entity) => entity as u64,
-        Ending::Open => 0,
+        Ending::None => 0,
     }
 }
 

@@ -50,7 +50,7 @@ fn put_ending(out: &mut [u8], at: usize, e: Ending) -> usize
 {
     match e {
         Ending::Terminal(entity) => put_decimal(out, at, entity as u64),
-        Ending::Open => put(out, at, b"none"),
+        Ending::None => put(out, at, b"none"),
     }
 }
 

@@ -21,12 +21,12 @@ use Rattle.answer.specs.Fault.{faultOf}
 use Rattle.answer.specs.Answer.{refused, done}
 use Rattle.memo.specs.Memo.{Rows, entry, ending, actionCount, payoffCount, Sized, labelsFrom, Along, solutionIn}
 use Rattle.solver.specs.declared.Ending.{Ending}
-use Rattle.solver.specs.declared.Ending.the-variants.{Open}
+use Rattle.solver.specs.declared.Ending.the-variants.{None}
 use Rattle.solver.specs.Held.{endingOf, held, padded, heldFor}
 
 -- ---- a refusal
 pub refused-held : (f : Check) (x : Refusal) → faultOf f ≡ some x
-    → held (record { refusal = f; ending = Open; «action_count» = 0; labels = replicate 64 0; «payoff_count» = 0; payoffs = replicate 8 (ofBits binary64 0) }) ≡ heldFor (refused x)
+    → held (record { refusal = f; ending = None; «action_count» = 0; labels = replicate 64 0; «payoff_count» = 0; payoffs = replicate 8 (ofBits binary64 0) }) ≡ heldFor (refused x)
 unfolding held heldFor padded fromBits fromFields
 refused-held f x h = rw (h, meaning-ofBits 0)
 

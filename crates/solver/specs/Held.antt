@@ -10,7 +10,7 @@ use Rattle.answer.specs.Fault.{Fault, faultOf}
 use Rattle.answer.specs.Answer.{Answer, refused, done}
 use Rattle.backward_induction.specs.Solve.{Solution}
 use Rattle.solver.specs.declared.Ending.{Ending}
-use Rattle.solver.specs.declared.Ending.the-variants.{Terminal, Open}
+use Rattle.solver.specs.declared.Ending.the-variants.{Terminal, None}
 use Rattle.solver.specs.declared.Solved.{Solved}
 
 -- 64 label numbers and 8 payoffs, of which the first so many count
@@ -24,7 +24,7 @@ pub record Held : Type 0 where
 
 abbrev pub endingOf : Ending → Option ℕ
 endingOf (Terminal e) = some e
-endingOf Open = none
+endingOf None = none
 
 -- what the code's answer holds
 unfoldable pub held : Solved → Held

@@ -27,7 +27,7 @@ use turns::ReplyTurn;
 // Where the play of a solution ends: a terminal node, or none where it meets a chance node.
 pub enum Ending {
     Terminal(u32),
-    Open,
+    None,
 }
 
 // A refusal, or a solution: label numbers first to last, payoffs from player 0's on. What is not used is 0.
@@ -141,7 +141,7 @@ fn refused_answer(fault: Check) -> Solved
 {
     Solved {
         refusal: fault,
-        ending: Ending::Open,
+        ending: Ending::None,
         action_count: 0,
         labels: [0u32; 64],
         payoff_count: 0,
@@ -175,7 +175,7 @@ fn solution_at(heads: &[[u32; 7]], payoffs: &[[f64; 8]], row: usize) -> Solved
     let values = payoffs[row];
     let count = memo::wide(head[3]);
     let ending = if head[1] == 0 {
-        Ending::Open
+        Ending::None
     } else {
         Ending::Terminal(head[2])
     };
