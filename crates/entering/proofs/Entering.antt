@@ -65,8 +65,8 @@ module _ (method : Method) {s : List ℕ} {row e p : ℕ} (node : NodeAt s row e
   pub decision-refused : (r : Refusal) → some r ≡ faultIn (outgoingActionEdges (gameOf s) e) → solve method (gameOf s) left e ≡ refused r
   decision-refused r h = solve-left method s e left some-depth ∙ step-action-fault method (gameOf s) _ e p kind r (fault-refused _ r h)
 
-  pub decision-starts : none ≡ faultIn (outgoingActionEdges (gameOf s) e) → EnteredAs method s m left e (E.Decision row p)
-  decision-starts h =
+  pub decision-starts : known (entry m row .head) left ≡ false → none ≡ faultIn (outgoingActionEdges (gameOf s) e) → EnteredAs method s m left e (E.Decision row p)
+  decision-starts new h =
       no-fault (outgoingActionEdges (gameOf s) e) h λ xs q. (
         some-depth,
         node,
@@ -77,6 +77,7 @@ module _ (method : Method) {s : List ℕ} {row e p : ℕ} (node : NodeAt s row e
           right = λ k _. solve-suc method (gameOf s) k e ∙ step-decision method (gameOf s) (solve method (gameOf s) k) e p kind xs q
               ∙ ap (λ a. a >>= λ r. done (taken r)) (bestOf-from (solve method (gameOf s) k) p e xs);
         },
+        new,
       )
 
 -- ---- a chance node
@@ -88,8 +89,8 @@ module _ (method : Method) {s : List ℕ} {row e : ℕ} (node : NodeAt s row e) 
     pub chance-refused : (r : Refusal) → some r ≡ faultIn (outgoingChanceOutcomes (gameOf s) e) → solve method (gameOf s) left e ≡ refused r
     chance-refused r h = solve-left method s e left some-depth ∙ step-chance-fault method (gameOf s) _ e kind weighted r (fault-refused _ r h)
 
-    pub chance-starts : none ≡ faultIn (outgoingChanceOutcomes (gameOf s) e) → EnteredAs method s m left e (E.Chance row)
-    chance-starts h =
+    pub chance-starts : known (entry m row .head) left ≡ false → none ≡ faultIn (outgoingChanceOutcomes (gameOf s) e) → EnteredAs method s m left e (E.Chance row)
+    chance-starts new h =
         no-fault (outgoingChanceOutcomes (gameOf s) e) h λ os q. (
           some-depth,
           node,
@@ -101,4 +102,5 @@ module _ (method : Method) {s : List ℕ} {row e : ℕ} (node : NodeAt s row e) 
             right = λ k _. solve-suc method (gameOf s) k e ∙ step-chance method (gameOf s) (solve method (gameOf s) k) e kind weighted os q
                 ∙ ap (λ a. a >>= weighed e) (sumsOf-from (solve method (gameOf s) k) e os);
           },
+          new,
         )

@@ -1,6 +1,7 @@
 -- What is known of a node that is being solved: which of its child rows are left, and what is held of those before. Definitions only.
 use Prim.Native.Nat.{ℕ, suc, _*_, _<_, _≤_}
 use mathlib.Core.Path.{_≡_}
+use mathlib.Core.Bool.{false}
 use mathlib.Core.List.{List}
 use mathlib.Core.Option.{Option, none}
 use lib.ListN.{length}
@@ -18,7 +19,7 @@ use Rattle.child_rows.specs.Links.{Linked}
 use Rattle.backward_induction.specs.declared.Method.{Method}
 use Rattle.backward_induction.specs.Solve.{taken, weighed, solve}
 use Rattle.backward_induction.specs.Turns.{bestFrom, sumsFrom}
-use Rattle.memo.specs.Memo.{Rows, Memo, Extends}
+use Rattle.memo.specs.Memo.{Rows, entry, Memo, Extends, known}
 use Rattle.memo.specs.Visiting.{SolvedAs}
 use Rattle.turns.specs.declared.Best.{Best}
 use Rattle.turns.specs.declared.Best.the-variants as B
@@ -63,11 +64,11 @@ pub record Weighing (method : Method) (s : List ℕ) (e i deepest : ℕ) (w : Su
 abbrev pub ToWeigh : Method → List ℕ → ℕ → Type 0
 ToWeigh method s e = (w : Sums) → Holds w none → Weighing method s e 0 0 w
 
--- a node that is entered with so much depth left: visited, or its replies or outcomes are to be solved
+-- a node that is entered with so much depth left: visited, or its replies or outcomes are to be solved, since no answer of it is known
 abbrev pub EnteredAs : Method → List ℕ → Rows → ℕ → ℕ → Entered → Type 0
 EnteredAs method s m left e (E.Done v) = SolvedAs method s m left e v
-EnteredAs method s m left e (E.Decision row p) = (0 < left) × NodeAt s row e × Deciding method s m e p 0 0 B.None
-EnteredAs method s m left e (E.Chance row) = (0 < left) × NodeAt s row e × ToWeigh method s e
+EnteredAs method s m left e (E.Decision row p) = (0 < left) × NodeAt s row e × Deciding method s m e p 0 0 B.None × (known (entry m row .head) left ≡ false)
+EnteredAs method s m left e (E.Chance row) = (0 < left) × NodeAt s row e × ToWeigh method s e × (known (entry m row .head) left ≡ false)
 
 -- entering takes the memo m to m′
 pub record Enters (method : Method) (s : List ℕ) (m m′ : Rows) (left e : ℕ) (r : Entered) : Type 0 where

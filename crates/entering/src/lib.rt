@@ -16,7 +16,7 @@ ghost use Rattle.sheet.specs.Meaning.{payoffRow, gameOf, Opens};
 ghost use Rattle.sheet.specs.Found.{NodeAt};
 ghost use Rattle.backward_induction.specs.declared.Method.{Method};
 ghost use Rattle.backward_induction.specs.Solve.{Solver, atKind};
-ghost use Rattle.memo.specs.Memo.{Rows, rows, Within};
+ghost use Rattle.memo.specs.Memo.{Rows, rows, entry, Within, known};
 ghost use Rattle.memo.specs.Visiting.{KeptAs};
 ghost use Rattle.child_rows.specs.Links.{Linked};
 ghost use Rattle.entering.specs.Solving.{Asks, EnteredAs, Enters};
@@ -80,7 +80,7 @@ fn enter_decision(
     player: u32,
 ) -> Entered
     requires { ⌜ Noted (now sheet) (now hints) × Linked (now sheet) (now links) × NodeAt (now sheet) row entity × (kindOf (gameOf (now sheet)) entity ≡ some (Kinds.Decision player)) ⌝ }
-    ensures { λ r. ⌜ ((method : Method) (m : Rows) (left : ℕ) → 0 < left → EnteredAs method (now (sheet .entry)) m left entity r) ⌝ }
+    ensures { λ r. ⌜ ((method : Method) (m : Rows) (left : ℕ) → 0 < left → known (entry m row .head) left ≡ false → EnteredAs method (now (sheet .entry)) m left entity r) ⌝ }
 {
     let from = child_rows::first_child(links, row);
     match edges::linked_action_edges(sheet, hints, links, entity, from) {
@@ -99,7 +99,7 @@ fn enter_chance(
     row: usize,
 ) -> Entered
     requires { ⌜ Noted (now sheet) (now hints) × Linked (now sheet) (now links) × NodeAt (now sheet) row entity × (kindOf (gameOf (now sheet)) entity ≡ some Kinds.Chance) ⌝ }
-    ensures { λ r. ⌜ ((m : Rows) (left : ℕ) → 0 < left → EnteredAs method (now (sheet .entry)) m left entity r) ⌝ }
+    ensures { λ r. ⌜ ((m : Rows) (left : ℕ) → 0 < left → known (entry m row .head) left ≡ false → EnteredAs method (now (sheet .entry)) m left entity r) ⌝ }
 {
     if let Method::Plain = method {
         return Entered::Done(memo::refused(20, entity as u64));

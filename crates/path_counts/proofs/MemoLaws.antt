@@ -40,7 +40,7 @@ module _ {s : List ℕ} {m : List (List ℕ)} {left e : ℕ} {v : Entered} (ente
   entered-done w p = rw p at enters
 
   pub entered-inner : (i : ℕ) → v ≡ Entering.Inner i → Memo s m × (0 < left) × NodeAt s i e × Inner s e
-  entered-inner i p = rw p at enters
+  entered-inner i p = let x = rw p at enters in (x .0, x .1, x .2, x .3)
 
 -- ---- a visit
 module _ {s : List ℕ} {m : List (List ℕ)} {left e : ℕ} {v : Visit} (visits : CountsAs s m left e v) where

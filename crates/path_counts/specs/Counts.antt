@@ -1,7 +1,7 @@
 -- How many paths start at a node and how many u64s these are, as the first walk counts and keeps them. Definitions only.
 use Prim.Native.Nat.{ℕ, suc, _+_, _<_, _≤_, min, max}
 use mathlib.Core.Path.{_≡_}
-use mathlib.Core.Bool.{Bool, _&&_, cond}
+use mathlib.Core.Bool.{Bool, false, _&&_, cond}
 use mathlib.Core.List.{List, [], _∷_}
 use lib.ListN.{length, getD, set}
 use lib.Dec.{eqb, ltb, leb}
@@ -88,7 +88,7 @@ pub record Inner (s : List ℕ) (e : ℕ) : Type 0 where
 -- the node e is entered: it is visited, or its edges are left to follow
 abbrev pub Enters : List ℕ → List (List ℕ) → ℕ → ℕ → Entered → Type 0
 Enters s m left e (Entering.Done v) = CountsAs s m left e v
-Enters s m left e (Entering.Inner i) = Memo s m × (0 < left) × NodeAt s i e × Inner s e
+Enters s m left e (Entering.Inner i) = Memo s m × (0 < left) × NodeAt s i e × Inner s e × (known (getD m i []) left ≡ false)
 
 -- ---- the edges of a node
 

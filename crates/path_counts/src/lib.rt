@@ -1,5 +1,6 @@
 // How many paths start at a node, by a walk that counts each node once.
 ghost use mathlib.Core.Path.{_≡_};
+ghost use mathlib.Core.Bool.{false};
 ghost use mathlib.Core.List.{List, []};
 ghost use mathlib.Core.Option.{some};
 ghost use Prim.Native.Nat.{ℕ, _+_, _≤_, _<_, min, max};
@@ -95,7 +96,7 @@ fn count_terminal(
 // A node with edges: the faults among them.
 fn enter_inner(sheet: &[u8], hints: &[u16], entity: u32, row: usize) -> Entered
     requires { ⌜ Noted (now sheet) (now hints) × NodeAt (now sheet) row entity × Continues (gameOf (now sheet)) entity ⌝ }
-    ensures { λ r. ⌜ ((m : List (List ℕ)) (left : ℕ) → Memo (now (sheet .entry)) m → 0 < left → Enters (now (sheet .entry)) m left entity r) ⌝ }
+    ensures { λ r. ⌜ ((m : List (List ℕ)) (left : ℕ) → Memo (now (sheet .entry)) m → 0 < left → known (getD m row []) left ≡ false → Enters (now (sheet .entry)) m left entity r) ⌝ }
 {
     match edges::outgoing_action_edges(sheet, hints, entity) {
         Check::Refused(r) => Entered::Done(Visit::Refused(r)),

@@ -1,7 +1,7 @@
 // An index of rows by their entities: a table of hints with open addressing, whose length is a power of two, in which rows of several sections
 // may have lanes of their own. A hint is looked at before it is used, and where the search for an entity ends at no hint there is no row.
 ghost use mathlib.Core.Path.{_≡_};
-ghost use mathlib.Core.Bool.{false};
+ghost use mathlib.Core.Bool.{true, false};
 ghost use Prim.Native.Nat.{_+_, _<_, _≤_};
 ghost use lib.ListN.{length};
 ghost use Rattle.rows.specs.Rows.{rowsIn, entityAt, findRow, foundAt};
@@ -73,7 +73,7 @@ fn place(rows: &[u8], w: usize, hints: &[u16], lanes: usize, lane: usize, entity
 // Notes row i, and answers whether its entity had a hint before.
 pub fn note(rows: &[u8], w: usize, hints: &mut [u16], lanes: usize, lane: usize, i: usize) -> bool
     requires { ⌜ (i < rowsIn w (now rows)) × (i < 65535) × (4 ≤ w) × (w ≤ 32) × (0 < length (now hints)) × (0 < lanes) × (lanes ≤ 8) × (lane < 8) ⌝ }
-    ensures { λ r. ⌜ (r ≡ false → hintOf w (now (rows .entry)) lanes lane (entityAt w (now (rows .entry)) i) (now (hints .entry)) ≡ 0) × (0 < hintOf w (now (rows .entry)) lanes lane (entityAt w (now (rows .entry)) i) (now (hints .exit))) × StillNoted (now (hints .entry)) (now (hints .exit)) ⌝ }
+    ensures { λ r. ⌜ (r ≡ false → hintOf w (now (rows .entry)) lanes lane (entityAt w (now (rows .entry)) i) (now (hints .entry)) ≡ 0) × (0 < hintOf w (now (rows .entry)) lanes lane (entityAt w (now (rows .entry)) i) (now (hints .exit))) × StillNoted (now (hints .entry)) (now (hints .exit)) × (r ≡ true → 0 < hintOf w (now (rows .entry)) lanes lane (entityAt w (now (rows .entry)) i) (now (hints .entry))) ⌝ }
 {
     let at = place(rows, w, hints, lanes, lane, rows::field(rows, w, i, 0));
     if hints[at] != 0 {

@@ -127,7 +127,7 @@ returns-5 c =
     let a = start .args in
     let some-left = c .before .before .before .before .before .before .before .before .before .before .before .before .if1 .left in
     let m = rows (a .heads .now) (a .payoffs .now) in
-    record { memo = start .pre .memo; extends = λ i h. h; entered = c .enter-decision .ensures (a .method) m (a .left) (omega arith) }
+    record { memo = start .pre .memo; extends = λ i h. h; entered = c .enter-decision .ensures (a .method) m (a .left) (omega arith) (sym (c .before .before .before .before .before .before .is-known .ensures) ∙ c .before .before .before .before .before .if2 .left) }
 
 same-length-5 : tie.Need-same-length-5
 same-length-5 c = search needs
@@ -138,7 +138,7 @@ returns-6 c =
     let a = start .args in
     let some-left = c .before .before .before .before .before .before .before .before .before .before .before .if1 .left in
     let m = rows (a .heads .now) (a .payoffs .now) in
-    record { memo = start .pre .memo; extends = λ i h. h; entered = c .enter-chance .ensures m (a .left) (omega arith) }
+    record { memo = start .pre .memo; extends = λ i h. h; entered = c .enter-chance .ensures m (a .left) (omega arith) (sym (c .before .before .before .before .before .is-known .ensures) ∙ c .before .before .before .before .if2 .left) }
 
 pub enter-spec : {M : Type 1} → statement M
 enter-spec =

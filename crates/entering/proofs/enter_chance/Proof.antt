@@ -16,7 +16,7 @@ refused-requires c κs = search needs
 returns : tie.Need-returns
 returns c =
     let start = c .before .before .before .before .before .before in
-    λ m left h. rw (c .refused .ensures) (chance-plain (start .args .method) (start .pre .2) (start .pre .3) m left h (c .before .enum-told .given .1))
+    λ m left h new. rw (c .refused .ensures) (chance-plain (start .args .method) (start .pre .2) (start .pre .3) m left h (c .before .enum-told .given .1))
 
 enum-told-2 : tie.Need-enum-told-2
 enum-told-2 c = search needs
@@ -39,12 +39,12 @@ enum-told-3 c = search needs
 returns-2 : tie.Need-returns-2
 returns-2 c =
     let start = c .before .before .before .before .before .before .before .before .before .before in
-    λ m left h. chance-refused (start .args .method) (start .pre .2) (start .pre .3) m left h (c .before .before .before .before .before .enum-told2 .given .1) _ (sym (ap faultOf (c .before .r .given .1)) ∙ c .before .before .before .linked-chance-outcomes .ensures)
+    λ m left h new. chance-refused (start .args .method) (start .pre .2) (start .pre .3) m left h (c .before .before .before .before .before .enum-told2 .given .1) _ (sym (ap faultOf (c .before .r .given .1)) ∙ c .before .before .before .linked-chance-outcomes .ensures)
 
 returns-3 : tie.Need-returns-3
 returns-3 c =
     let start = c .before .before .before .before .before .before .before .before .before in
-    λ m left h. chance-starts (start .args .method) (start .pre .2) (start .pre .3) m left h (c .before .before .before .before .enum-told2 .given .1) (sym (ap faultOf (c .enum-told3 .given .1)) ∙ c .before .before .linked-chance-outcomes .ensures)
+    λ m left h new. chance-starts (start .args .method) (start .pre .2) (start .pre .3) m left h (c .before .before .before .before .enum-told2 .given .1) new (sym (ap faultOf (c .enum-told3 .given .1)) ∙ c .before .before .linked-chance-outcomes .ensures)
 
 pub enter-chance-spec : {M : Type 1} → statement M
 enter-chance-spec =

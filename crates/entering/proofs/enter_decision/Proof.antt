@@ -25,12 +25,12 @@ enum-told c = search needs
 returns : tie.Need-returns
 returns c =
     let p = c .before .before .before .before .before .before .before .before .pre in
-    λ method m left h. decision-refused method (p .2) (p .3) m left h _ (sym (ap faultOf (c .before .r .given .1)) ∙ c .before .before .before .linked-action-edges .ensures)
+    λ method m left h new. decision-refused method (p .2) (p .3) m left h _ (sym (ap faultOf (c .before .r .given .1)) ∙ c .before .before .before .linked-action-edges .ensures)
 
 returns-2 : tie.Need-returns-2
 returns-2 c =
     let p = c .before .before .before .before .before .before .before .pre in
-    λ method m left h. decision-starts method (p .2) (p .3) m left h (sym (ap faultOf (c .enum-told .given .1)) ∙ c .before .before .linked-action-edges .ensures)
+    λ method m left h new. decision-starts method (p .2) (p .3) m left h new (sym (ap faultOf (c .enum-told .given .1)) ∙ c .before .before .linked-action-edges .ensures)
 
 pub enter-decision-spec : {M : Type 1} → statement M
 enter-decision-spec =

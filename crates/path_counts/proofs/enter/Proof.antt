@@ -86,13 +86,13 @@ same-length-3 : tie.Need-same-length-3
 same-length-3 c = search needs
 
 returns-5 : tie.Need-returns-5
-returns-5 c = c .enter-inner .ensures _ _ (c .before .before .before .before .before .before .before .before .before .before .before .before .before .before .pre .1) (omega arith)
+returns-5 c = c .enter-inner .ensures _ _ (c .before .before .before .before .before .before .before .before .before .before .before .before .before .before .pre .1) (omega arith) (sym (c .before .before .before .before .before .is-known .ensures) ∙ c .before .before .before .before .if2 .left)
 
 same-length-4 : tie.Need-same-length-4
 same-length-4 c = search needs
 
 returns-6 : tie.Need-returns-6
-returns-6 c = c .enter-inner2 .ensures _ _ (c .before .before .before .before .before .before .before .before .before .before .before .before .before .before .pre .1) (omega arith)
+returns-6 c = c .enter-inner2 .ensures _ _ (c .before .before .before .before .before .before .before .before .before .before .before .before .before .before .pre .1) (omega arith) (sym (c .before .before .before .before .before .is-known .ensures) ∙ c .before .before .before .before .if2 .left)
 
 pub enter-spec : {M : Type 1} → statement M
 enter-spec =

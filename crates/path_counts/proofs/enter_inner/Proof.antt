@@ -14,10 +14,10 @@ enum-told : tie.Need-enum-told
 enum-told c = search needs
 
 returns : tie.Need-returns
-returns c = λ m left memo deep. record { memo = memo; visited = edges-refused _ _ (c .before .before .before .before .before .before .pre .2) _ (c .before .before .before .outgoing-action-edges .ensures) _ (c .before .r .given .1) left deep }
+returns c = λ m left memo deep new. record { memo = memo; visited = edges-refused _ _ (c .before .before .before .before .before .before .pre .2) _ (c .before .before .before .outgoing-action-edges .ensures) _ (c .before .r .given .1) left deep }
 
 returns-2 : tie.Need-returns-2
-returns-2 c = λ m left memo deep. (memo, deep, c .before .before .before .before .before .pre .1, edges-passed _ _ (c .before .before .before .before .before .pre .2) _ (c .before .before .outgoing-action-edges .ensures) (c .enum-told .given .1))
+returns-2 c = λ m left memo deep new. (memo, deep, c .before .before .before .before .before .pre .1, edges-passed _ _ (c .before .before .before .before .before .pre .2) _ (c .before .before .outgoing-action-edges .ensures) (c .enum-told .given .1), new)
 
 pub enter-inner-spec : {M : Type 1} → statement M
 enter-inner-spec =

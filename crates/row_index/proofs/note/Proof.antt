@@ -43,7 +43,7 @@ same-length : tie.Need-same-length
 same-length c = search needs
 
 returns : tie.Need-returns
-returns c = (λ q. absurd (true≢false q), rw (← read (c .before .before)) (omega (arith, c .if1 .taken)), λ w rows lanes lane e h. h)
+returns c = (λ q. absurd (true≢false q), rw (← read (c .before .before)) (omega (arith, c .if1 .taken)), λ w rows lanes lane e h. h, λ q. rw (← read (c .before .before)) (omega (arith, c .if1 .taken)))
 
 cast-hints : tie.Need-cast-hints
 cast-hints c = search needs
@@ -61,7 +61,7 @@ same-length-2 : tie.Need-same-length-2
 same-length-2 c = search needs
 
 returns-2 : tie.Need-returns-2
-returns-2 c = let p = (c .before .before) in let free = c .if1 .left in (λ q. sym (read p) ∙ free, now-noted _ _ _ (within p) free _ _ _ _ _ (own p) (sym (ended p)) (omega arith), still-noted _ _ _ (within p) free)
+returns-2 c = let p = (c .before .before) in let free = c .if1 .left in (λ q. sym (read p) ∙ free, now-noted _ _ _ (within p) free _ _ _ _ _ (own p) (sym (ended p)) (omega arith), still-noted _ _ _ (within p) free, λ q. absurd (true≢false (sym q)))
 
 pub note-spec : {M : Type 1} → statement M
 note-spec =
