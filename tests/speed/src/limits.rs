@@ -74,13 +74,14 @@ fn numbered_otherwise(bench: &mut Bench) -> Done<()> {
 
 /// Sheets that are held to no ratio, and why it is not reached.
 fn not_reached(bench: &mut Bench) -> Done<()> {
-    let fixed = "Most of the time is the same for any sheet: tables are cleared, the answer is copied.";
+    let few =
+        "Opening and the visits alone take longer than the Rust; tables are cleared and the answer is copied besides.";
     let places = "Entities share the places at which a search looks, and then it goes over the rows one by one.";
     let small = crowded(arranged(full_tree(5, 2, Kinds::Decisions), Order::Shuffled));
     let two_nodes = "Opening reads every byte, and the Rust's solve visits two nodes.";
     let refused = "Opening reads every byte, and the Rust's solve is refused at the root.";
     let solved = [
-        (Named::new("01's small sheet", fs::read("samples/worked.kgs")?), fixed),
+        (Named::new("01's small sheet", fs::read("samples/worked.kgs")?), few),
         (Named::of(format!("binary tree of 5 levels, {ADVERSARY}, rows shuffled"), small), places),
         (Named::of("1,023 nodes in sets, one edge from the root", sets_of(1_023, 1, 1_023, 2, 2_000)), two_nodes),
     ];
