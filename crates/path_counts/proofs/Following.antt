@@ -19,7 +19,7 @@ use Rattle.sheet.specs.Meaning.{gameOf}
 use Rattle.sheet.specs.Found.{NodeAt}
 use Rattle.path_counts.specs.declared.Visit.{Visit}
 use Rattle.path_counts.specs.declared.Tally.{Tally}
-use Rattle.path_counts.specs.Paths.{Path, behind, along, paths}
+use Rattle.path_counts.specs.Paths.{Path, after, along, paths}
 use Rattle.path_counts.specs.Counts.{Counts, Right, Memo, Inner, CountedIn, CountsAs, added, keptIn, keptAs}
 use Rattle.path_counts.proofs.PathLaws.{along-nil, along-stop, along-next, no-edges, some-edges, joined}
 use Rattle.path_counts.proofs.CountLaws.{counts-none, counts-added}
@@ -108,12 +108,12 @@ module _ {s : List ℕ} {e left n : ℕ} where
             near = omega (arith, w .near, found .near);
             rest = zs;
             ahead = a;
-            sofar = w .sofar ++ behind (x .label) (c .listed);
+            sofar = w .sofar ++ after (x .label ∷ []) (c .listed);
             counts = counts-added (x .label) (w .counts) (c .counts);
             right = λ k h.
                 w .right k (omega arith)
                 ∙ rw (p, along-next (paths (gameOf s) k) x zs (c .listed) (rw (← found .own .entity) (c .right k (omega arith))))
-                (joined (along (paths (gameOf s) k) zs) (w .sofar) (behind (x .label) (c .listed)));
+                (joined (along (paths (gameOf s) k) zs) (w .sofar) (after (x .label ∷ []) (c .listed)));
             none-yet = λ h. absurd (omega (arith, found .counted));
             some-yet = λ h z. cons-not-nil x zs (sym p ∙ leaves z);
           })

@@ -1,17 +1,17 @@
 -- The paths from a node by its kind, the paths along its edges one by one, and how long their records are.
 use Prim.Native.Nat.{ℕ, suc, _+_}
 use mathlib.Core.Path.{_≡_, refl, ap}
-use mathlib.Core.List.{List, [], _∷_, _++_, append-assoc}
+use mathlib.Core.List.{List, [], _∷_, _++_, flatMap, append-assoc}
 use mathlib.Core.Option.{none, some}
 use native.Mathlib.Omega.{arith}
-use lib.ListN.{length, length-append}
+use lib.ListN.{length, length-append, length-map}
 use Rattle.answer.specs.declared.Refusal.{Refusal}
 use Rattle.answer.specs.Answer.{Answer, refused, done, _>>=_}
 use Rattle.answer.specs.Refusals.{missingNode, missingTerminalUtility, noOutgoingActions, depthSpent}
 use Rattle.game.specs.declared.ActionEdge.{ActionEdge}
 use Rattle.game.specs.Game.{Game, TerminalUtility, kindOf, terminalOf}
 use Rattle.game.specs.declared.Kind.the-variants as Kinds
-use Rattle.path_counts.specs.Paths.{Path, behind, along, byEdges, pathsAt, paths, recordOf, records}
+use Rattle.path_counts.specs.Paths.{Path, after, along, byEdges, pathsAt, paths, recordOf, records}
 use Rattle.path_counts.specs.Counts.{Continues}
 
 -- ---- the paths from a node
@@ -53,7 +53,7 @@ module _ (f : ℕ → Answer (List Path)) where
     unfolding along
     along-stop r h = rw h
 
-    pub along-next : (ps : List Path) → f (x .target) ≡ done ps → along f (x ∷ xs) ≡ (along f xs >>= λ qs. done (behind (x .label) ps ++ qs))
+    pub along-next : (ps : List Path) → f (x .target) ≡ done ps → along f (x ∷ xs) ≡ (along f xs >>= λ qs. done (after (x .label ∷ []) ps ++ qs))
     unfolding along
     along-next ps h = rw h
 
@@ -74,19 +74,17 @@ joined (refused r) xs ys = refl
 joined (done qs) xs ys = ap done (rw append-assoc)
 
 -- ---- lengths
-module _ (label : ℕ) where
-  pub length-behind : (ps : List Path) → length (behind label ps) ≡ length ps
-  unfolding behind
-  length-behind [] = refl
-  length-behind (p ∷ ps) = ap suc (length-behind ps)
+pub length-after : (labels : List ℕ) (ps : List Path) → length (after labels ps) ≡ length ps
+unfolding after
+length-after labels ps = length-map ps _
 
-  -- a label more for each path
-  pub length-records-behind : (ps : List Path) → length (records (behind label ps)) ≡ length (records ps) + length ps
-  unfolding behind records recordOf
-  length-records-behind [] = omega arith
-  length-records-behind (p ∷ ps) = simp length-append (omega (arith, length-records-behind ps))
+-- a label more for each path
+pub length-records-after : (label : ℕ) (ps : List Path) → length (records (after (label ∷ []) ps)) ≡ length (records ps) + length ps
+unfolding after flatMap recordOf
+length-records-after label [] = omega arith
+length-records-after label (p ∷ ps) = simp length-append (omega (arith, length-records-after label ps))
 
 pub records-append : (ps qs : List Path) → records (ps ++ qs) ≡ records ps ++ records qs
-unfolding records
+unfolding flatMap
 records-append [] qs = refl
 records-append (p ∷ ps) qs = rw (append-assoc, records-append ps qs)

@@ -1,6 +1,6 @@
 -- `extensive_form_paths`: every way from a node to a terminal by action edges, depth first in edge order. Definitions only.
 use Prim.Native.Nat.{ℕ, zero, suc}
-use mathlib.Core.List.{List, [], _∷_, _++_, map}
+use mathlib.Core.List.{List, [], _∷_, _++_, map, flatMap}
 use lib.ListN.{length}
 use Rattle.number.specs.Number.{Number, toBits}
 use Rattle.answer.specs.Answer.{Answer, refused, done, _>>=_, orRefuse}
@@ -17,15 +17,14 @@ pub record Path : Type 0 where
   pub actions : List ℕ
   pub payoffs : List Number
 
--- a label in front of each path
-unfoldable pub behind : ℕ → List Path → List Path
-behind label [] = []
-behind label (p ∷ ps) = record { terminal = p .terminal; actions = label ∷ p .actions; payoffs = p .payoffs } ∷ behind label ps
+-- labels in front of each path
+unfoldable pub after : List ℕ → List Path → List Path
+after labels ps = map (λ p. record { terminal = p .terminal; actions = labels ++ p .actions; payoffs = p .payoffs }) ps
 
 -- the paths by each edge in turn, or the first refusal
 unfoldable pub along : (ℕ → Answer (List Path)) → List ActionEdge → Answer (List Path)
 along f [] = done []
-along f (x ∷ xs) = f (x .target) >>= λ ps. along f xs >>= λ qs. done (behind (x .label) ps ++ qs)
+along f (x ∷ xs) = f (x .target) >>= λ ps. along f xs >>= λ qs. done (after (x .label ∷ []) ps ++ qs)
 
 unfoldable pub byEdges : (ℕ → Answer (List Path)) → ℕ → List ActionEdge → Answer (List Path)
 byEdges f e [] = refused (noOutgoingActions e)
@@ -49,6 +48,5 @@ module _ (g : Game) where
 unfoldable pub recordOf : Path → List ℕ
 recordOf p = p .terminal ∷ length (p .payoffs) ∷ length (p .actions) ∷ (p .actions ++ map toBits (p .payoffs))
 
-unfoldable pub records : List Path → List ℕ
-records [] = []
-records (p ∷ ps) = recordOf p ++ records ps
+abbrev pub records : List Path → List ℕ
+records ps = flatMap recordOf ps

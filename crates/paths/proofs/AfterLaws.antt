@@ -1,7 +1,7 @@
 -- Labels in front of paths: one more at the end, paths in a row, one path, no label; and the words of a node's paths where it has some.
 use Prim.Native.Nat.{ℕ, zero, suc}
 use mathlib.Core.Path.{_≡_, refl, sym, _∙_}
-use mathlib.Core.List.{List, [], _∷_, _++_, append-nil, append-assoc}
+use mathlib.Core.List.{List, [], _∷_, _++_, flatMap, append-nil, append-assoc}
 use mathlib.Core.Option.{none, Option·some-ne-none}
 use Rattle.answer.specs.Answer.{Answer, refused, done, faultIn}
 use Rattle.answer.proofs.AnswerLaws.{refused-not-done}
@@ -9,14 +9,14 @@ use Rattle.game.specs.Game.{Game}
 use Rattle.sheet.specs.declared.Terminal.{Terminal}
 use Rattle.sheet.specs.declared.TerminalFound.the-variants.{Found}
 use Rattle.sheet.specs.Meaning.{gameOf}
-use Rattle.path_counts.specs.Paths.{Path, behind, paths, recordOf, records}
+use Rattle.path_counts.specs.Paths.{Path, after, paths, recordOf, records}
 use Rattle.path_counts.proofs.PathLaws.{depth-spent}
-use Rattle.paths.specs.Writing.{after, wordsFrom, pathTo, EndsAt}
+use Rattle.paths.specs.Writing.{wordsFrom, pathTo, EndsAt}
 
 module _ (ls : List ℕ) where
   -- one label more
-  pub after-snoc : (l : ℕ) (ps : List Path) → after (ls ++ (l ∷ [])) ps ≡ after ls (behind l ps)
-  unfolding after behind
+  pub after-snoc : (l : ℕ) (ps : List Path) → after (ls ++ (l ∷ [])) ps ≡ after ls (after (l ∷ []) ps)
+  unfolding after
   after-snoc l [] = refl
   after-snoc l (p ∷ ps) = rw (append-assoc, after-snoc l ps)
 
@@ -50,6 +50,6 @@ words-are g left e labels ps h = rw h
 -- a terminal's words are the record of the path to it
 pub terminal-words : (s : List ℕ) (left e : ℕ) (t : Terminal) (labels : List ℕ) → faultIn (paths (gameOf s) left e) ≡ none → EndsAt s e (Found t)
     → wordsFrom (gameOf s) left e labels ≡ recordOf (pathTo s t labels)
-unfolding records
+unfolding flatMap
 terminal-words s zero e t labels h ends = without-fault (paths (gameOf s) 0 e) h (λ ps p. absurd (refused-not-done (sym (depth-spent (gameOf s) e) ∙ p)))
 terminal-words s (suc k) e t labels h ends = words-are (gameOf s) (suc k) e labels _ (ends k) ∙ rw (after-one labels s t, append-nil)

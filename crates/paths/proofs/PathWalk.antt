@@ -1,7 +1,7 @@
 -- Writing the paths of a node edge by edge: where the walk starts, passes a row by, what it asks of the next edge's target, goes on and ends.
 use Prim.Native.Nat.{ℕ, zero, suc, _+_, _-_, _≤_, _<_}
 use mathlib.Core.Path.{_≡_, refl, sym, ap, _∙_}
-use mathlib.Core.List.{List, [], _∷_, _++_, append-nil, append-assoc}
+use mathlib.Core.List.{List, [], _∷_, _++_, flatMap, append-nil, append-assoc}
 use mathlib.Core.Option.{none, some}
 use native.Mathlib.Numerals.{add-one}
 use native.Mathlib.Omega.{arith}
@@ -16,17 +16,17 @@ use Rattle.game.specs.Edges.{actionEdgeIn}
 use Rattle.sheet.specs.Meaning.{gameOf}
 use Rattle.text.specs.Written.{written}
 use Rattle.text.proofs.WrittenLaws.{written-empty, written-then}
-use Rattle.path_counts.specs.Paths.{Path, behind, along, byEdges, paths, records}
+use Rattle.path_counts.specs.Paths.{Path, after, along, byEdges, paths, records}
 use Rattle.path_counts.specs.Counts.{Inner}
 use Rattle.path_counts.proofs.PathLaws.{depth-spent, along-nil, records-append}
 use Rattle.path_counts.proofs.EnterLaws.{above-zero}
 use Rattle.path_counts.proofs.EdgeRows.{Ahead, all-ahead, met, none-ahead}
-use Rattle.paths.specs.Writing.{after, wordsFrom}
+use Rattle.paths.specs.Writing.{wordsFrom}
 use Rattle.paths.proofs.AfterLaws.{after-nil, after-append, after-snoc, without-fault, words-are}
 
 -- what is done along edges is done along each
 along-done : {P : Type 0} (f : ℕ → Answer (List Path)) (x : ActionEdge) (xs : List ActionEdge) (later : List Path) → along f (x ∷ xs) ≡ done later
-    → ((ps qs : List Path) → f (x .target) ≡ done ps → along f xs ≡ done qs → later ≡ behind (x .label) ps ++ qs → P) → P
+    → ((ps qs : List Path) → f (x .target) ≡ done ps → along f xs ≡ done qs → later ≡ after (x .label ∷ []) ps ++ qs → P) → P
 unfolding along
 along-done f x xs later h next =
     bind-done (f (x .target)) _ later h (λ ps p q. bind-done (along f xs) _ later q (λ qs r e. next ps qs p r (sym (done-injective e))))
@@ -115,7 +115,7 @@ module _ (s : List ℕ) (e left at count n : ℕ) (labels₀ out₀ : List ℕ) 
         others : along (paths (gameOf s) (left - 1)) zs ≡ done qs
         all : wordsFrom (gameOf s) left e (take count labels₀) ≡ (w .sofar ++ words) ++ records (after (take count labels₀) qs)
 
-      split : (ps qs : List Path) → paths (gameOf s) (left - 1) (x .target) ≡ done ps → w .later ≡ behind (x .label) ps ++ qs
+      split : (ps qs : List Path) → paths (gameOf s) (left - 1) (x .target) ≡ done ps → w .later ≡ after (x .label ∷ []) ps ++ qs
           → wordsFrom (gameOf s) left e (take count labels₀) ≡ (w .sofar ++ words) ++ records (after (take count labels₀) qs)
       split ps qs p q =
           w .whole
@@ -162,7 +162,7 @@ module _ (s : List ℕ) (e left at count n : ℕ) (labels₀ out₀ : List ℕ) 
           }
 
     all-words : n ≤ i → wordsFrom (gameOf s) left e (take count labels₀) ≡ w .sofar
-    unfolding records
+    unfolding flatMap
     all-words l =
         let nothing : w .later ≡ [] = done-injective (sym (w .follow) ∙ ap (along (paths (gameOf s) (left - 1))) (none-ahead (w .ahead) l) ∙ along-nil (paths (gameOf s) (left - 1))) in
         w .whole ∙ rw (nothing, after-nil, append-nil)

@@ -1,7 +1,7 @@
 -- What the second walk writes: the records of the paths from a node, behind the labels on the way to it. Definitions only.
 use Prim.Native.Nat.{ℕ, suc}
 use mathlib.Core.Path.{_≡_}
-use mathlib.Core.List.{List, [], _∷_, _++_}
+use mathlib.Core.List.{List, [], _∷_}
 use Rattle.answer.specs.Answer.{Answer, refused, done}
 use Rattle.game.specs.Game.{Game}
 use Rattle.sheet.specs.declared.Terminal.{Terminal}
@@ -9,13 +9,8 @@ use Rattle.sheet.specs.declared.TerminalFound.{TerminalFound}
 use Rattle.sheet.specs.declared.TerminalFound.the-variants.{Found, Missing}
 use Rattle.sheet.specs.Meaning.{gameOf}
 use Rattle.sheet.specs.Found.{terminalIn}
-use Rattle.path_counts.specs.Paths.{Path, paths, records}
+use Rattle.path_counts.specs.Paths.{Path, after, paths, records}
 use Rattle.path_counts.specs.Counts.{Inner}
-
--- the labels in front of each path
-unfoldable pub after : List ℕ → List Path → List Path
-after labels [] = []
-after labels (p ∷ ps) = record { terminal = p .terminal; actions = labels ++ p .actions; payoffs = p .payoffs } ∷ after labels ps
 
 -- the paths of an answer without a refusal
 abbrev pub pathsIn : Answer (List Path) → List Path

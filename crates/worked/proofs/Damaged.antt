@@ -1,7 +1,7 @@
 -- The worked sheet with a byte changed, or cut short, is refused as 01 says: each by computation from the definitions.
 use Prim.Native.Nat.{ℕ}
 use mathlib.Core.Path.{_≡_, refl}
-use mathlib.Core.List.{List}
+use mathlib.Core.List.{List, flatMap}
 use mathlib.Core.Option.{none, some}
 use lib.ListN.{set, take}
 use Rattle.little_endian.specs.LittleEndian.{littleEndian, bytesOf}
@@ -12,7 +12,7 @@ use Rattle.rows.specs.Rows.{rowsIn, u32Field, u64Field, findRow, repeated}
 use Rattle.layout.specs.Layout.{width, rowLimit, edition, offsetOf, lengthOf, startOf, sectionFault, sameBytes, layoutFault, section, rowCount, field, field64}
 use Rattle.opening.specs.Faults.{nodeFault, labelFault, chanceFault, terminalFault, payoffFault, setFault, labelEnd, previousEnd, labelRowFault, textFault, fieldsFault}
 use Rattle.opening.specs.SheetFault.{hasEntity, rowFault, payoffStart, totalFault, rowsFault, sheetFault}
-use Rattle.worked.specs.Written.{u32s, f64s, pairs, joined, sheetBytes}
+use Rattle.worked.specs.Written.{pairs, sheetBytes}
 use Rattle.worked.specs.Worked.{sheetWith, worked}
 
 faultIn : List ℕ → Fault
@@ -21,12 +21,12 @@ faultIn s = sheetFault s
 
 -- with the byte b in place of that at i
 faultAt : ℕ → ℕ → Fault
-unfolding faultIn worked sheetWith sheetBytes pairs joined u32s f64s bytesOf
+unfolding faultIn worked sheetWith sheetBytes pairs flatMap bytesOf
 faultAt i b = faultIn (set worked i b)
 
 -- with only the first n bytes
 faultTo : ℕ → Fault
-unfolding faultIn worked sheetWith sheetBytes pairs joined u32s f64s bytesOf
+unfolding faultIn worked sheetWith sheetBytes pairs flatMap bytesOf
 faultTo n = faultIn (take n worked)
 
 sizes : (faultTo 0 ≡ some (badSize 0)) × (faultTo 91 ≡ some (badSize 91)) × (faultTo 92 ≡ some (badSection 9)) × (faultTo 398 ≡ some (badSection 9))

@@ -1,7 +1,7 @@
 -- The worked sheet opens to its game, and the lookups in it answer as 01 says: each by computation from the definitions.
 use mathlib.Core.Path.{_≡_, refl}
 use mathlib.Core.Bool.{true, false}
-use mathlib.Core.List.{[], _∷_, filterMap}
+use mathlib.Core.List.{[], _∷_, filterMap, flatMap}
 use mathlib.Core.Option.{none, some}
 use lib.ListN.{length}
 use Rattle.number.specs.Number.{fromBits, fromFields}
@@ -19,15 +19,15 @@ use Rattle.game.specs.declared.Kind.the-variants as Kinds
 use Rattle.game.specs.Game.{nodeOf, kindOf, actionOf, chanceOf, terminalOf, labelText, sameLabel}
 use Rattle.game.specs.Edges.{transitionFault, edgeOf, outgoing, outgoingActionEdges, outgoingChanceOutcomes}
 use Rattle.sheet.specs.Meaning.{kindFrom, nodeRow, actionRow, chanceRow, payoffRow, terminalRow, setRow, labelRow, gameOf, opening}
-use Rattle.worked.specs.Written.{u32s, f64s, pairs, joined, sheetBytes}
+use Rattle.worked.specs.Written.{pairs, sheetBytes}
 use Rattle.worked.specs.Worked.{node, action, chance, terminal, quarter, threeQuarters, eight, highText, transitions, sheetWith, worked, workedGame}
 
 pub worked-length : length worked ≡ 399
-unfolding worked sheetWith sheetBytes pairs joined u32s f64s bytesOf
+unfolding worked sheetWith sheetBytes pairs flatMap bytesOf
 worked-length = refl
 
 pub worked-opens : opening worked ≡ done workedGame
-unfolding worked sheetWith sheetBytes pairs joined u32s f64s bytesOf workedGame opening sheetFault rowsFault totalFault payoffStart rowFault hasEntity fieldsFault nodeFault labelFault chanceFault terminalFault payoffFault setFault labelEnd previousEnd labelRowFault textFault layoutFault sectionFault sameBytes startOf offsetOf lengthOf edition rootOf rowLimit width section rowCount field field64 rowsIn u32Field u64Field findRow repeated littleEndian first firstIn given _▹_ rowsFrom gameOf kindFrom nodeRow actionRow chanceRow payoffRow terminalRow setRow labelRow childRow childRows transitionRow transitionRows fromBits fromFields
+unfolding worked sheetWith sheetBytes pairs flatMap bytesOf workedGame opening sheetFault rowsFault totalFault payoffStart rowFault hasEntity fieldsFault nodeFault labelFault chanceFault terminalFault payoffFault setFault labelEnd previousEnd labelRowFault textFault layoutFault sectionFault sameBytes startOf offsetOf lengthOf edition rootOf rowLimit width section rowCount field field64 rowsIn u32Field u64Field findRow repeated littleEndian first firstIn given _▹_ rowsFrom gameOf kindFrom nodeRow actionRow chanceRow payoffRow terminalRow setRow labelRow childRow childRows transitionRow transitionRows fromBits fromFields
 worked-opens = refl
 
 -- ---- lookups by entity

@@ -25,10 +25,10 @@ use Rattle.paths.specs.Listing.{listing, listingFrom}
 use Rattle.topology.specs.Topology.{isIn, missing, targetsFault, anyChance, kindFault, walkFault, topologyFault, topology}
 use Rattle.kuhn.specs.Solve as Kuhn
 use Rattle.kuhn.specs.Solve.{kuhn}
-use Rattle.worked.specs.Written.{u32s, f64s, pairs, joined, sheetBytes}
+use Rattle.worked.specs.Written.{pairs, sheetBytes}
 use Rattle.worked.specs.Worked.{sheetWith, worked}
 use Rattle.worked_cases.specs.Cases.{solved, validated, played, swapped, unlinked, cases, Right}
 
 pub worked-cases : Right cases
-unfolding cases listing listingFrom paths pathsAt byEdges along solved validated played topology topologyFault walkFault kindFault anyChance targetsFault missing isIn firstIn kuhn Kuhn.solved ofBits ofFields odd trailingZeros swapped unlinked worked sheetWith sheetBytes pairs joined u32s f64s bytesOf solution limited depthOf solve step atKind atChance inRange allFinite sumsOf sumsOn added products taken bestOf best better reply opening sheetFault rowsFault totalFault payoffStart rowFault hasEntity fieldsFault nodeFault labelFault chanceFault terminalFault payoffFault setFault labelEnd previousEnd labelRowFault textFault layoutFault sectionFault sameBytes startOf offsetOf lengthOf edition rootOf rowLimit width section rowCount field field64 rowsIn u32Field u64Field findRow repeated littleEndian first given _▹_ rowsFrom gameOf kindFrom nodeRow actionRow chanceRow payoffRow terminalRow setRow labelRow childRow childRows transitionRow transitionRows fromBits fromFields toBits plus times less overflow roundToNearestEven excessDigits outgoingActionEdges outgoingChanceOutcomes outgoing edgeOf transitionFault transitionTarget childrenOf childIn filterMap zipWith collect get nodeOf kindOf actionOf chanceOf terminalOf labelText flatMap
+unfolding cases listing listingFrom paths pathsAt byEdges along solved validated played topology topologyFault walkFault kindFault anyChance targetsFault missing isIn firstIn kuhn Kuhn.solved ofBits ofFields odd trailingZeros swapped unlinked worked sheetWith sheetBytes pairs bytesOf solution limited depthOf solve step atKind atChance inRange allFinite sumsOf sumsOn added products taken bestOf best better reply opening sheetFault rowsFault totalFault payoffStart rowFault hasEntity fieldsFault nodeFault labelFault chanceFault terminalFault payoffFault setFault labelEnd previousEnd labelRowFault textFault layoutFault sectionFault sameBytes startOf offsetOf lengthOf edition rootOf rowLimit width section rowCount field field64 rowsIn u32Field u64Field findRow repeated littleEndian first given _▹_ rowsFrom gameOf kindFrom nodeRow actionRow chanceRow payoffRow terminalRow setRow labelRow childRow childRows transitionRow transitionRows fromBits fromFields toBits plus times less overflow roundToNearestEven excessDigits outgoingActionEdges outgoingChanceOutcomes outgoing edgeOf transitionFault transitionTarget childrenOf childIn filterMap zipWith collect get nodeOf kindOf actionOf chanceOf terminalOf labelText flatMap
 worked-cases = (refl, (refl, (refl, (refl, (refl, (refl, (refl, (refl, (refl, (refl, (refl, (refl, (refl, (refl, tt))))))))))))))

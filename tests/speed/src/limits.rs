@@ -3,8 +3,8 @@
 use crate::answer::Call;
 use crate::bench::{Bench, Done, Named};
 use crate::draft::Draft;
-use crate::numbering::{crowded, is_short, renumbered, NATURAL};
-use crate::report::{table, NOT_REACHED};
+use crate::numbering::{crowded, is_short, renumbered, steps, NATURAL};
+use crate::report::{grouped, table, NOT_REACHED};
 use crate::sheets::*;
 use crate::tables::{most, COLUMNS, PATHS, PLAIN, SOLVE};
 use crate::worst::sets_of;
@@ -13,6 +13,7 @@ use std::fs;
 pub fn limits(bench: &mut Bench) -> Done<()> {
     largest(bench)?;
     numbered_otherwise(bench)?;
+    worst_steps(bench)?;
     not_reached(bench)
 }
 
@@ -68,6 +69,35 @@ fn numbered_otherwise(bench: &mut Bench) -> Done<()> {
                 bench.ratio(&named, &Call::Solve { start: named.root(), limit: 64 }, most(&named))?;
             }
         }
+    }
+    Ok(())
+}
+
+/// The step between entities that takes longest beside the Rust in a short measurement, measured again, on the smallest
+/// sheets that are held to a ratio.
+fn worst_steps(bench: &mut Bench) -> Done<()> {
+    table("The worst of 41 steps between entities, rows shuffled", COLUMNS);
+    let sheets = [
+        ("binary tree of 5 levels", full_tree(5, 2, Kinds::Decisions)),
+        ("30 replies", full_tree(2, 30, Kinds::Decisions)),
+    ];
+    for (name, draft) in sheets {
+        let mut worst = None;
+        let usual = bench.budget;
+        bench.budget /= 4;
+        for step in steps() {
+            let draft = arranged(renumbered(draft.clone(), |entity| entity * step), Order::Shuffled);
+            let named = Named::of(format!("{name}, entities times {}", grouped(u64::from(step))), draft);
+            let call = Call::Solve { start: named.root(), limit: 64 };
+            let [ours, theirs] = bench.both(&named, &call)?;
+            let ratio = ours.over(&theirs);
+            if worst.as_ref().is_none_or(|&(most, ..)| ratio > most) {
+                worst = Some((ratio, named, call));
+            }
+        }
+        bench.budget = usual;
+        let (_, named, call) = worst.expect("there are steps");
+        bench.ratio(&named, &call, most(&named))?;
     }
     Ok(())
 }

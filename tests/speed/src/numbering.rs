@@ -27,6 +27,12 @@ pub const NATURAL: [(&str, fn(u32) -> u32); 7] = [
     ("entities scattered", scattered),
 ];
 
+/// Steps between entities: the powers of two up to 2^24, and others.
+pub fn steps() -> Vec<u32> {
+    let others = [3, 5, 7, 10, 12, 25, 33, 50, 100, 500, 999, 1_000, 1_023, 1_025, 10_000, 100_000, 1_000_000];
+    (1..=24).map(|power| 1 << power).chain(others).collect()
+}
+
 pub fn times_65_536(entity: u32) -> u32 {
     entity * 65_536
 }
