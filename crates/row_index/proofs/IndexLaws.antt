@@ -14,7 +14,7 @@ use lib.ListN.{length, getD, set, length-set}
 use lib.Seq.{getD-set-same, getD-set-other}
 use Rattle.rows.specs.Rows.{entityAt, namedBy, findRow}
 use Rattle.rows.proofs.RowLaws.{not-named}
-use Rattle.row_index.specs.RowIndex.{folded, mixed, highest, placeBy, firstPlace, looksIn, ends, endFrom, placeOf, hintOf, NotedTo, StillNoted}
+use Rattle.row_index.specs.RowIndex.{firstNumber, mixed, highest, placeBy, firstPlace, looksIn, ends, endFrom, placeOf, hintOf, NotedTo, StillNoted}
 
 pub place-by-within : (n lanes lane m : ℕ) → 0 < n → placeBy n lanes lane m < n
 unfolding placeBy
@@ -22,7 +22,7 @@ place-by-within n lanes lane m h = omega (arith, and-le-r (lanes * m + lane) (n 
 
 pub first-within : (lanes lane e : ℕ) (hints : List ℕ) → 0 < length hints → firstPlace lanes lane e hints < length hints
 unfolding firstPlace
-first-within lanes lane e hints room = place-by-within (length hints) lanes lane (folded (length hints) e) room
+first-within lanes lane e hints room = place-by-within (length hints) lanes lane (firstNumber (length hints) e) room
 
 -- where a search ends
 module _ (w : ℕ) (rows : List ℕ) (e : ℕ) where
@@ -53,7 +53,7 @@ module _ (w : ℕ) (rows : List ℕ) (lanes lane e : ℕ) where
     unfolding endFrom
     end-here q = rw (endFrom, q)
 
-    end-on : ends w rows e (getD hints p 0) ≡ false → endFrom w rows lanes lane e hints (suc looks) x p ≡ endFrom w rows lanes lane e hints looks (mixed x) (placeBy (length hints) lanes lane (highest (length hints) x))
+    end-on : ends w rows e (getD hints p 0) ≡ false → endFrom w rows lanes lane e hints (suc looks) x p ≡ endFrom w rows lanes lane e hints looks (mixed x) (placeBy (length hints) lanes lane (highest (length hints) (mixed x)))
     unfolding endFrom
     end-on q = rw (endFrom, q)
 
@@ -71,7 +71,7 @@ module _ (w : ℕ) (rows : List ℕ) (lanes lane e : ℕ) where
     end-named looks q = end-now looks (ends-named w rows e (getD hints p 0) q)
 
     pub end-next : (looks : ℕ) → 0 < looks → (getD hints p 0 ≡ 0 → ⊥) → namedBy w rows e (getD hints p 0 - 1) ≡ false
-        → endFrom w rows lanes lane e hints (looks - 1) (mixed x) (placeBy (length hints) lanes lane (highest (length hints) x)) ≡ endFrom w rows lanes lane e hints looks x p
+        → endFrom w rows lanes lane e hints (looks - 1) (mixed x) (placeBy (length hints) lanes lane (highest (length hints) (mixed x))) ≡ endFrom w rows lanes lane e hints looks x p
     end-next looks l n q =
         let left : looks ≡ suc (looks - 1) = omega arith in
         sym (ap (λ (m : ℕ). endFrom w rows lanes lane e hints m x p) left ∙ end-on hints (looks - 1) x p (ends-not w rows e (getD hints p 0) n q))
@@ -106,7 +106,7 @@ module _ (hints : List ℕ) (j v : ℕ) (here : j < length hints) (free : getD h
   module _ (w : ℕ) (rows : List ℕ) (lanes lane e : ℕ) where
     -- a search that goes on goes on to the same place
     same-on : (looks x p : ℕ) → ends w rows e (getD hints p 0) ≡ false
-        → endFrom w rows lanes lane e (set hints j v) (suc looks) x p ≡ endFrom w rows lanes lane e (set hints j v) looks (mixed x) (placeBy (length hints) lanes lane (highest (length hints) x))
+        → endFrom w rows lanes lane e (set hints j v) (suc looks) x p ≡ endFrom w rows lanes lane e (set hints j v) looks (mixed x) (placeBy (length hints) lanes lane (highest (length hints) (mixed x)))
     same-on looks x p q =
         let k = kept p (goes-on w rows e (getD hints p 0) q) in
         end-on w rows lanes lane e (set hints j v) looks x p (ap (ends w rows e) k ∙ q) ∙ rw (length-set hints j v)

@@ -8,25 +8,25 @@ use lib.Dec.{eqb, leb}
 use lib.ListN.{length, getD}
 use Rattle.rows.specs.Rows.{rowsIn, entityAt, namedBy, Distinct}
 
--- an entity and its higher digits to the base 32 added up, so that entities in steps of ten, a thousand or a power of two have places apart as well
--- as those one after the other; in a long table only two of the digits are added
-unfoldable pub folded : ℕ → ℕ → ℕ
-folded n e = e + e / 1024 + e / 32768 + cond (leb n 1024) (e / 32 + e / 1048576 + e / 33554432) 0
-
 -- another number below 2^32: those of two such numbers differ, since the factor is odd
 unfoldable pub mixed : ℕ → ℕ
-mixed x = x * 2654435769 % 4294967296
+mixed x = x * 3294197973 % 4294967296
 
 -- its highest digits, as many as a table has use for
 unfoldable pub highest : ℕ → ℕ → ℕ
 highest n x = cond (leb n 1024) (x / 33554432) (x / 2097152)
+
+-- the number by which an entity has its first place: in a long table the entity and some of its higher digits added up, so that entities one after the
+-- other are close together in memory, and those in steps of a thousand or a power of two have places apart
+unfoldable pub firstNumber : ℕ → ℕ → ℕ
+firstNumber n e = cond (leb n 1024) (highest n (mixed e)) (e + e / 1024 + e / 32768)
 
 -- where in a table of n hints, a power of two, a number has its place in a lane
 unfoldable pub placeBy : ℕ → ℕ → ℕ → ℕ → ℕ
 placeBy n lanes lane m = bitAnd (lanes * m + lane) (n - 1)
 
 unfoldable pub firstPlace : ℕ → ℕ → ℕ → List ℕ → ℕ
-firstPlace lanes lane e hints = placeBy (length hints) lanes lane (folded (length hints) e)
+firstPlace lanes lane e hints = placeBy (length hints) lanes lane (firstNumber (length hints) e)
 
 -- at how many places a search looks: more in a table for many rows, since these take longer to go over one by one
 unfoldable pub looksIn : ℕ → ℕ → ℕ
@@ -38,13 +38,13 @@ ends w rows e hint = eqb hint 0 || namedBy w rows e (hint - 1)
 
 -- the rows of w bytes in a lane, and the entity that is searched for
 module _ (w : ℕ) (rows : List ℕ) (lanes lane e : ℕ) where
-  -- the place where a search ends that looks at place p next, then goes on by the number x, and has so many looks left
+  -- the place where a search ends that looks at place p, goes on by the numbers after x, and has so many looks left
   unfoldable pub endFrom : List ℕ → ℕ → ℕ → ℕ → ℕ
   endFrom hints zero x p = p
   endFrom hints (suc looks) x p =
       elim (ends w rows e (getD hints p 0)) [
         | true ↦ p
-        | false ↦ endFrom hints looks (mixed x) (placeBy (length hints) lanes lane (highest (length hints) x))
+        | false ↦ endFrom hints looks (mixed x) (placeBy (length hints) lanes lane (highest (length hints) (mixed x)))
       ]
 
   -- the place where the search for the entity ends

@@ -5,19 +5,15 @@ ghost use mathlib.Core.Bool.{true, false};
 ghost use Prim.Native.Nat.{_+_, _<_, _≤_};
 ghost use lib.ListN.{length};
 ghost use Rattle.rows.specs.Rows.{rowsIn, entityAt, findRow, foundAt};
-ghost use Rattle.row_index.specs.RowIndex.{folded, highest, placeBy, firstPlace, placeOf, hintOf, StillNoted, Indexed};
+ghost use Rattle.row_index.specs.RowIndex.{mixed, highest, firstNumber, placeBy, firstPlace, placeOf, hintOf, StillNoted, Indexed};
 use rows::Found;
 
-// An entity and its higher digits added up.
-fn digit_sum(n: usize, entity: u32) -> usize
-    ensures { λ r. ⌜ (r ≡ folded n entity) × (r ≤ 8589934592) ⌝ }
+// Multiplicative hashing: the highest digits of the product tell a place.
+fn mix(x: usize) -> usize
+    requires { ⌜ x < 4294967296 ⌝ }
+    ensures { λ r. ⌜ (r ≡ mixed x) × (r < 4294967296) ⌝ }
 {
-    let e = entity as usize;
-    let sum = e + e / 1024 + e / 32768;
-    if n <= 1024 {
-        return sum + (e / 32 + e / 1048576 + e / 33554432);
-    }
-    sum
+    x * 3294197973 % 4294967296
 }
 
 fn highest_digits(n: usize, x: usize) -> usize
@@ -28,6 +24,17 @@ fn highest_digits(n: usize, x: usize) -> usize
         return x / 33554432;
     }
     x / 2097152
+}
+
+// The number by which an entity has its first place.
+fn first_number(n: usize, entity: u32) -> usize
+    ensures { λ r. ⌜ (r ≡ firstNumber n entity) × (r ≤ 8589934592) ⌝ }
+{
+    let e = entity as usize;
+    if n <= 1024 {
+        return highest_digits(n, mix(e));
+    }
+    e + e / 1024 + e / 32768
 }
 
 fn place_by(n: usize, lanes: usize, lane: usize, number: usize) -> usize
@@ -43,7 +50,7 @@ pub fn first_place(hints: &[u16], lanes: usize, lane: usize, entity: u32) -> usi
     ensures { λ r. ⌜ r ≡ firstPlace lanes lane entity (now (hints .entry)) ⌝ }
 {
     let n = hints.len();
-    place_by(n, lanes, lane, digit_sum(n, entity))
+    place_by(n, lanes, lane, first_number(n, entity))
 }
 
 // The place where the search for an entity ends.
@@ -52,7 +59,7 @@ fn place(rows: &[u8], w: usize, hints: &[u16], lanes: usize, lane: usize, entity
     ensures { λ r. ⌜ r ≡ placeOf w (now (rows .entry)) lanes lane entity (now (hints .entry)) ⌝ }
 {
     let n = hints.len();
-    let mut x = entity as usize * 2654435769 % 4294967296;
+    let mut x = mix(entity as usize);
     let mut at = first_place(hints, lanes, lane, entity);
     let mut looks = n / (64 * lanes) + 2;
     while 0 < looks {
@@ -63,8 +70,8 @@ fn place(rows: &[u8], w: usize, hints: &[u16], lanes: usize, lane: usize, entity
         if rows::names(rows, w, hint, entity) {
             return at;
         }
+        x = mix(x);
         at = place_by(n, lanes, lane, highest_digits(n, x));
-        x = x * 2654435769 % 4294967296;
         looks -= 1;
     }
     at

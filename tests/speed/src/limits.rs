@@ -82,7 +82,7 @@ fn worst_steps(bench: &mut Bench) -> Done<()> {
         ("30 replies", full_tree(2, 30, Kinds::Decisions)),
     ];
     for (name, draft) in sheets {
-        let mut worst = None;
+        let mut worst: Option<(f64, Named, Call)> = None;
         let usual = bench.budget;
         bench.budget /= 4;
         for step in steps() {
@@ -91,7 +91,7 @@ fn worst_steps(bench: &mut Bench) -> Done<()> {
             let call = Call::Solve { start: named.root(), limit: 64 };
             let [ours, theirs] = bench.both(&named, &call)?;
             let ratio = ours.over(&theirs);
-            if worst.as_ref().is_none_or(|&(most, ..)| ratio > most) {
+            if worst.as_ref().is_none_or(|(most, ..)| ratio > *most) {
                 worst = Some((ratio, named, call));
             }
         }

@@ -82,7 +82,7 @@ enum Table {
     Long,
 }
 
-const FACTOR: u32 = 2_654_435_769;
+const FACTOR: u32 = 3_294_197_973;
 
 /// The number that comes after another one.
 fn mixed(number: u32) -> u32 {
@@ -109,10 +109,9 @@ impl Table {
     /// An entity's first place.
     fn first(self, entity: u32) -> u64 {
         let number = u64::from(entity);
-        let folded = number + number / 1_024 + number / 32_768;
         match self {
-            Table::Short => (folded + number / 32 + number / 1_048_576 + number / 33_554_432) % 128,
-            Table::Long => folded % 2_048,
+            Table::Short => u64::from(self.place(mixed(entity))),
+            Table::Long => (number + number / 1_024 + number / 32_768) % 2_048,
         }
     }
 
@@ -128,9 +127,11 @@ impl Table {
             Table::Short => 1,
             Table::Long => 80,
         };
+        // the second place is by the number after the number after the entity, and so on
         let second = (0..few << (32 - self.digits())).filter(|&number| self.place(mixed(number)) < few);
-        let mut crowd: Vec<u32> = second.map(unmixed).filter(|&entity| self.first(entity) == 0).collect();
-        crowd.sort_unstable_by_key(|&entity| mixed(mixed(mixed(entity))));
+        let entities = second.map(|number| unmixed(unmixed(number)));
+        let mut crowd: Vec<u32> = entities.filter(|&entity| self.first(entity) == 0).collect();
+        crowd.sort_unstable_by_key(|&entity| mixed(mixed(mixed(mixed(entity)))));
         crowd
     }
 }

@@ -6,7 +6,7 @@ use native.Mathlib.Nat.{div-le-self}
 use native.Mathlib.Omega.{arith}
 use borrow.Author.Needs.{needs}
 use lib.ListN.{length}
-use Rattle.row_index.specs.RowIndex.{mixed, firstPlace, looksIn, endFrom, placeOf}
+use Rattle.row_index.specs.RowIndex.{firstPlace, looksIn, endFrom, placeOf}
 use Rattle.row_index.proofs.IndexLaws.{place-by-within, end-free, end-named, end-next}
 use Rattle.row_index.proofs.place.Statement.{statement}
 use Rattle.row_index.proofs.place.Tie as tie
@@ -18,24 +18,24 @@ Inv-loop rows w hints lanes lane entity n x₀ at₀ looks₀ x at looks =
 abbrev μ-loop : tie.MeasureT-loop
 μ-loop rows w hints lanes lane entity n x₀ at₀ looks₀ x at looks = looks
 
-mul-x : tie.Need-mul-x Inv-loop μ-loop
-mul-x c = search needs
+mix-requires : tie.Need-mix-requires Inv-loop μ-loop
+mix-requires c κs = search needs
 
 first-place-requires : tie.Need-first-place-requires Inv-loop μ-loop
-first-place-requires c κs = (c .before .before .pre .2, c .before .before .pre .4, c .before .before .pre .5)
+first-place-requires c κs = let p = c .before .before .before .pre in (p .2, p .4, p .5)
 
 mul-looks : tie.Need-mul-looks Inv-loop μ-loop
-mul-looks c = omega (arith, c .before .before .before .pre .4)
+mul-looks c = omega (arith, c .before .before .before .before .pre .4)
 
 div-looks : tie.Need-div-looks Inv-loop μ-loop
-div-looks c = omega (arith, c .before .before .before .pre .3)
+div-looks c = omega (arith, c .before .before .before .before .pre .3)
 
 add-looks : tie.Need-add-looks Inv-loop μ-loop
-add-looks c = let a = c .before .before .before .args in omega (arith, div-le-self (length (a .hints .now)) (64 * a .lanes))
+add-looks c = let a = c .before .before .before .before .args in omega (arith, div-le-self (length (a .hints .now)) (64 * a .lanes))
 
 loop-holds : tie.Need-loop-holds Inv-loop μ-loop
-unfolding mixed looksIn placeOf firstPlace
-loop-holds c = (rw (c .first-place .ensures) (place-by-within _ _ _ _ (c .before .before .before .pre .2)), omega arith, rw (c .first-place .ensures))
+unfolding looksIn placeOf firstPlace
+loop-holds c = (rw (c .first-place .ensures) (place-by-within _ _ _ _ (c .before .before .before .before .pre .2)), c .before .mix .ensures .1, rw (c .before .mix .ensures .0, c .first-place .ensures))
 
 mul-hint : tie.Need-mul-hint Inv-loop μ-loop
 mul-hint c = omega (arith, c .before .loop .inv .0)
@@ -50,29 +50,33 @@ returns : tie.Need-returns Inv-loop μ-loop
 returns c = end-free _ _ _ _ _ _ _ _ _ (c .if1 .taken) ∙ c .before .before .before .loop .inv .2
 
 names-requires : tie.Need-names-requires Inv-loop μ-loop
-names-requires c κs = (omega (arith, c .if1 .left), omega (arith, c .before .shared-slice-known3 .given (c .before .before .before .loop .at)), c .before .before .before .before .before .before .before .pre .0, c .before .before .before .before .before .before .before .pre .1)
+names-requires c κs = let p = c .before .before .before .before .before .before .before .before .pre in (omega (arith, c .if1 .left), omega (arith, c .before .shared-slice-known3 .given (c .before .before .before .loop .at)), p .0, p .1)
 
 returns-2 : tie.Need-returns-2 Inv-loop μ-loop
 returns-2 c = end-named _ _ _ _ _ _ _ _ _ (sym (c .before .names .ensures) ∙ c .if2 .taken) ∙ c .before .before .before .before .before .loop .inv .2
 
+mix-requires-2 : tie.Need-mix-requires-2 Inv-loop μ-loop
+mix-requires-2 c κs = c .before .before .before .before .before .loop .inv .1
+
 highest-digits-requires : tie.Need-highest-digits-requires Inv-loop μ-loop
-highest-digits-requires c κs = c .before .before .before .before .before .loop .inv .1
+highest-digits-requires c κs = c .mix2 .ensures .1
 
 place-by-requires : tie.Need-place-by-requires Inv-loop μ-loop
-place-by-requires c κs = (c .before .before .before .before .before .before .before .before .before .before .pre .2, c .before .before .before .before .before .before .before .before .before .before .pre .4, c .before .before .before .before .before .before .before .before .before .before .pre .5, c .highest-digits .ensures .1)
-
-mul-x-2 : tie.Need-mul-x-2 Inv-loop μ-loop
-mul-x-2 c = omega (arith, c .before .before .before .before .before .before .before .loop .inv .1)
+place-by-requires c κs = let p = c .before .before .before .before .before .before .before .before .before .before .before .before .pre in (p .2, p .4, p .5, c .highest-digits .ensures .1)
 
 sub-looks : tie.Need-sub-looks Inv-loop μ-loop
-sub-looks c = omega (arith, c .before .before .before .before .before .before .loop-test .taken)
+sub-looks c = omega (arith, c .before .before .before .before .before .before .before .loop-test .taken)
 
 loop-less : tie.Need-loop-less Inv-loop μ-loop
-loop-less c = omega (arith, c .before .before .before .before .before .before .loop-test .taken)
+loop-less c = omega (arith, c .before .before .before .before .before .before .before .loop-test .taken)
 
 loop-again : tie.Need-loop-again Inv-loop μ-loop
-unfolding mixed
-loop-again c = (rw (c .place-by .ensures) (place-by-within _ _ _ _ (c .before .before .before .before .before .before .before .before .before .before .before .pre .2)), omega arith, rw (c .place-by .ensures, c .before .highest-digits .ensures .0) (end-next _ _ _ _ _ _ _ _ _ (c .before .before .before .before .before .before .loop-test .taken) (c .before .before .before .before .if1 .left) (sym (c .before .before .before .names .ensures) ∙ c .before .before .if2 .left)) ∙ c .before .before .before .before .before .before .before .loop .inv .2)
+loop-again c =
+    let m = c .before .before .mix2 .ensures in (
+      rw (c .place-by .ensures) (place-by-within _ _ _ _ (c .before .before .before .before .before .before .before .before .before .before .before .before .before .pre .2)),
+      m .1,
+      rw (c .place-by .ensures, c .before .highest-digits .ensures .0, m .0) (end-next _ _ _ _ _ _ _ _ _ (c .before .before .before .before .before .before .before .loop-test .taken) (c .before .before .before .before .before .if1 .left) (sym (c .before .before .before .before .names .ensures) ∙ c .before .before .before .if2 .left)) ∙ c .before .before .before .before .before .before .before .before .loop .inv .2,
+    )
 
 returns-3 : tie.Need-returns-3 Inv-loop μ-loop
 unfolding endFrom
@@ -84,7 +88,7 @@ place-spec =
     (tie.spec
     Inv-loop
     μ-loop
-    mul-x
+    mix-requires
     first-place-requires
     mul-looks
     div-looks
@@ -96,9 +100,9 @@ place-spec =
     returns
     names-requires
     returns-2
+    mix-requires-2
     highest-digits-requires
     place-by-requires
-    mul-x-2
     sub-looks
     loop-less
     loop-again
