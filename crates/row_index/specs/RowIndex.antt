@@ -30,7 +30,7 @@ firstPlace lanes lane e hints = placeBy (length hints) lanes lane (firstNumber (
 
 -- at how many places a search looks: more in a table for many rows, since these take longer to go over one by one
 unfoldable pub looksIn : ℕ → ℕ → ℕ
-looksIn n lanes = n / (64 * lanes) + 2
+looksIn n lanes = n / (64 * lanes) + 6
 
 -- a search for the entity e ends at a hint: no row is noted there, or the row that is names the entity
 unfoldable pub ends : ℕ → List ℕ → ℕ → ℕ → Bool

@@ -61,7 +61,7 @@ fn place(rows: &[u8], w: usize, hints: &[u16], lanes: usize, lane: usize, entity
     let n = hints.len();
     let mut x = mix(entity as usize);
     let mut at = first_place(hints, lanes, lane, entity);
-    let mut looks = n / (64 * lanes) + 2;
+    let mut looks = n / (64 * lanes) + 6;
     while 0 < looks {
         let hint = hints[at] as usize;
         if hint == 0 {

@@ -106,7 +106,7 @@ fn worst_steps(bench: &mut Bench) -> Done<()> {
 fn not_reached(bench: &mut Bench) -> Done<()> {
     let few =
         "Opening and the visits alone take longer than the Rust; tables are cleared and the answer is copied besides.";
-    let places = "Entities share the places at which a search looks, and then it goes over the rows one by one.";
+    let places = "Entities share three places and most of them four, so that each search looks at five or more.";
     let small = crowded(arranged(full_tree(5, 2, Kinds::Decisions), Order::Shuffled));
     let two_nodes = "Opening reads every byte, and the Rust's solve visits two nodes.";
     let refused = "Opening reads every byte, and the Rust's solve is refused at the root.";
