@@ -64,7 +64,7 @@ pub record Weighing (method : Method) (s : List ℕ) (e i deepest : ℕ) (w : Su
 abbrev pub ToWeigh : Method → List ℕ → ℕ → Type 0
 ToWeigh method s e = (w : Sums) → Holds w none → Weighing method s e 0 0 w
 
--- a node that is entered with so much depth left: visited, or its replies or outcomes are to be solved, since no answer of it is known
+-- a node that is entered with so much depth left: visited, or its replies or outcomes are to be solved, since no answer that holds there is known
 abbrev pub EnteredAs : Method → List ℕ → Rows → ℕ → ℕ → Entered → Type 0
 EnteredAs method s m left e (E.Done v) = SolvedAs method s m left e v
 EnteredAs method s m left e (E.Decision row p) = (0 < left) × NodeAt s row e × Deciding method s m e p 0 0 B.None × (known (entry m row .head) left ≡ false)

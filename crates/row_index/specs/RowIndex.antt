@@ -16,8 +16,8 @@ mixed x = x * 3294197973 % 4294967296
 unfoldable pub highest : ℕ → ℕ → ℕ
 highest n x = cond (leb n 1024) (x / 33554432) (x / 2097152)
 
--- the number by which an entity has its first place: in a long table the entity and some of its higher digits added up, so that entities one after the
--- other are close together in memory, and those in steps of a thousand or a power of two have places apart
+-- the number by which an entity has its first place: in a short table as the later ones, by a mixed number; in a long one the entity and some of its
+-- higher digits added up, so that entities one after the other are close together in memory, and those in steps of a thousand or a power of two apart
 unfoldable pub firstNumber : ℕ → ℕ → ℕ
 firstNumber n e = cond (leb n 1024) (highest n (mixed e)) (e + e / 1024 + e / 32768)
 
