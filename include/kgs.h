@@ -1,6 +1,5 @@
 /*
- * The C interface of the solver: libkgs.a, built by `tools/build kgs`, for x86-64-v2, which is x86-64 with the
- * instructions up to SSE4.2 and POPCNT; no call looks whether the processor has them.
+ * The C interface of the solver: libkgs.a, built by `tools/build kgs`, for x86-64.
  *
  * A sheet is lent as its bytes (docs/SHEET.md), any bytes: what is no fit sheet is refused, by a number and up to four
  * fields that docs/REFUSALS.md puts in plain words. All of this holds for every call:
