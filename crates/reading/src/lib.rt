@@ -1,7 +1,7 @@
 // Reading what a reader has into a lent buffer, as far as there is room.
 #![tactic(auto)]
 
-ghost use Rattle.std.specs.Prelude.{◌≡◌, ◌≤◌, ◌<◌, false, length, take};
+ghost use Rattle.std.specs.Prelude.{◌≡◌, ◌≤◌, ◌<◌, true, false, length, take};
 ghost use Rattle.std.specs.Io.KnownBytes.{Consumes, IsAtEnd};
 
 use std::io::Read;
@@ -18,6 +18,7 @@ pub fn read_full<R: Read>(input: &mut R, buf: &mut [u8]) -> Filled
     ensures within { result.len ≤ length buf.new }
     ensures bytes { Consumes (R.remaining input.old) (R.remaining input.new) (take result.len buf.new) }
     ensures whole { result.failed ≡ false → result.len < length buf.new → IsAtEnd (R.remaining input.new) }
+    ensures early { result.failed ≡ true → result.len < length buf.new }
 {
     let mut at = 0;
     while at < buf.len() {

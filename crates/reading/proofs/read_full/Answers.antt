@@ -1,6 +1,5 @@
 -- `read_full`'s loop: one more read lengthens what lies at the front.
 use Rattle.std.proofs.Common.{◌≤◌, length, arith}
-use Rattle.std.proofs.lemmas.Grind.{common_steps}
 use borrow.Author.Rules.{rules}
 use Rattle.reading.proofs.More.{consumes_more}
 use Rattle.reading.proofs.read_full.Goals as goal
