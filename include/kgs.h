@@ -2,7 +2,8 @@
  * The C interface of the solver: libkgs.a, built by `tools/build kgs`, for x86-64.
  *
  * A sheet is lent as its bytes (docs/SHEET.md), any bytes: what is no fit sheet is refused, by a number and up to four
- * fields that docs/REFUSALS.md puts in plain words. All of this holds for every call:
+ * fields that docs/REFUSALS.md puts in plain words. docs/CALLS.md says what each call answers. All of this holds for
+ * every call:
  *
  * - No pointer is null, not even one beside a length of 0, and each is aligned for its element type.
  * - What is lent stays the caller's. The sheet is only read; a buffer `out` is only written, and shares no byte with

@@ -4,10 +4,10 @@
     tests/make_samples.py            writes the files
     tests/make_samples.py --check    writes nothing; fails where a file is not what would be written
 
-Three parts. `Sheet` turns a description (nodes, edges, payoffs) into bytes. `opened`, `Game` and `printed` read document
-01 and nothing else: they share no text with the crates, and Python's floats are IEEE 754 doubles, each product and each sum
-rounded once. `SOLUTIONS` and `REFUSALS` have the descriptions; a sheet that is to be refused is most often another one with
-a field changed.
+Three parts. `Sheet` turns a description (nodes, edges, payoffs) into bytes. `opened`, `Game` and `printed` follow the rules
+of docs/ and nothing else: they share no text with the crates, and Python's floats are IEEE 754 doubles, each product and
+each sum rounded once. `SOLUTIONS` and `REFUSALS` have the descriptions; a sheet that is to be refused is most often another
+one with a field changed.
 """
 import struct
 import sys
@@ -101,7 +101,7 @@ def place(data, section, row, field):
     return struct.unpack_from("<I", data, 12 + 8 * section)[0] + WIDTH[section] * row + field
 
 
-# ---- document 01: opening
+# ---- opening, by docs/SHEET.md and docs/REFUSALS.md
 
 class Refused(Exception):
     """A refusal: its number, then its fields."""
@@ -179,7 +179,7 @@ def number(bits):
     return struct.unpack("<d", struct.pack("<Q", bits))[0]
 
 
-# ---- document 01: the chance-weighted solve with limit 0
+# ---- the chance-weighted solve with limit 0, by docs/CALLS.md and docs/REFUSALS.md
 
 class Game:
     """The game that a sheet's rows mean, and its solve: `visit` gives the terminal or None, the label numbers and the
@@ -275,7 +275,7 @@ def printed(data):
 # ---- the descriptions
 
 def worked():
-    """01's own sheet."""
+    """The worked sheet of docs/SHEET.md."""
     return (Sheet(1).decision(1, 0).chance(2).terminal(3, 2, 2).terminal(4, 8, 0).terminal(5, 0, 4)
             .action(10, 1, "open", 2).action(11, 1, "wait", 3)
             .outcome(12, 2, "high", 0.25, 4).outcome(13, 2, "low", 0.75, 5))

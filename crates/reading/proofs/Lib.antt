@@ -1,2 +1,2 @@
 -- What one more read leaves at the front of a buffer.
-mod More
+pub mod More

@@ -7,13 +7,14 @@ ghost use Rattle.std.specs.Io.KnownBytes.{Consumes, IsAtEnd};
 use std::io::Read;
 
 /// A read failed, after so many bytes were put at the front of the buffer.
-#[derive(Clone, Copy)]
+#[derive(Clone, Copy, Debug, PartialEq, Eq)]
 pub struct ReadFailed {
     pub after: usize,
 }
 
 /// Reads until the buffer is full or the input ends, and returns how many bytes it put at the buffer's front. Behind them the buffer holds what the
 /// reads left there.
+#[tactic(auto, using(crate::proofs::More::consumes_more))]
 pub fn read_full<R: Read>(input: &mut R, buf: &mut [u8]) -> Result<usize, ReadFailed>
     ensures within { IfOk result (λ n. n ≤ length buf.new) }
     ensures bytes { IfOk result (λ n. Consumes (R.remaining input.old) (R.remaining input.new) (take n buf.new)) }
@@ -21,6 +22,7 @@ pub fn read_full<R: Read>(input: &mut R, buf: &mut [u8]) -> Result<usize, ReadFa
     ensures early { IfErr result (λ e. e.after < length buf.new) }
     ensures early_bytes { IfErr result (λ e. Consumes (R.remaining input.old) (R.remaining input.new) (take e.after buf.new)) }
 {
+    // std's `read_exact` has this loop; of an input that ends or fails before, it tells neither the bytes nor how many.
     let mut at = 0;
     while at < buf.len() {
         match input.read(&mut buf[at..]) {
@@ -36,8 +38,5 @@ pub fn read_full<R: Read>(input: &mut R, buf: &mut [u8]) -> Result<usize, ReadFa
 pub fn read_so_far(read: Result<usize, ReadFailed>) -> usize
     ensures { MatchResult read (λ n. result ≡ n) (λ e. result ≡ e.after) }
 {
-    match read {
-        Ok(n) => n,
-        Err(failed) => failed.after,
-    }
+    read.unwrap_or_else(|failed| failed.after)
 }

@@ -3,7 +3,7 @@
 //! Answers are compared by `==`. On f64s that is equality of bits with zeros of either sign alike, since no right
 //! answer holds a NaN; a side that gives one differs from every other.
 
-/// A refusal by its number in document 01 with its fields; number 0 is none.
+/// A refusal by its number in docs/REFUSALS.md with its fields; number 0 is none.
 #[repr(C)]
 #[derive(Clone, Copy, Debug, Default, PartialEq)]
 pub struct Refusal {

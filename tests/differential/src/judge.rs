@@ -83,7 +83,7 @@ fn unasked(answer: Answer) -> Expected {
     Expected { answer, asked: false, too_long: false }
 }
 
-/// The answer that document 01 and, where it answers, the Rust give.
+/// The answer that the reference and, where it answers, the Rust give.
 pub fn expected(subject: &Subject, call: &Call) -> Result<Expected, Difference> {
     if let Some(refusal) = refused_unopened(call) {
         return Ok(unasked(call.refused(refusal)));

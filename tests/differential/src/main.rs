@@ -1,4 +1,4 @@
-//! Differential runs: the proved library, the unchanged Rust and a reference said from document 01, on the same bytes.
+//! Differential runs: the proved library, the unchanged Rust and a reference by the rules of docs/, on the same bytes.
 //!
 //! Usage: differential FOLDER run SEED COUNT
 //!        differential FOLDER vectors FILE
@@ -103,7 +103,7 @@ fn put_kuhn(record: &mut Record, seed: u64, count: u64) -> Result<(), Box<dyn Er
     Ok(())
 }
 
-/// Puts the fixed list to every side and to what 01 says; `found` is given each case's sheet, call and answer.
+/// Puts the fixed list to every side and to what the list states; `found` is given each case's sheet, call and answer.
 fn put_fixed(record: &mut Record, mut found: impl FnMut(&[u8], &Call, &Expected)) -> Result<(), Box<dyn Error>> {
     for case in fixed::list() {
         if record.differences >= ENOUGH {
@@ -119,9 +119,9 @@ fn put_fixed(record: &mut Record, mut found: impl FnMut(&[u8], &Call, &Expected)
     Ok(())
 }
 
-/// How the answer that every side gave differs from what 01 says, if it does.
+/// How the answer that every side gave differs from what the list states, if it does.
 fn unlike(says: &Says, call: &Call, answer: &Answer) -> Option<Difference> {
-    let sides = ["01", "every side"];
+    let sides = ["the list", "every side"];
     match says {
         Says::Refused(refusal) => Difference::between(sides, [&call.refused(*refusal), answer]),
         Says::Answered(said) => Difference::between(sides, [said, answer]),

@@ -232,7 +232,7 @@ fn values(payoffs: &[Utility]) -> Vec<f64> {
     payoffs.iter().map(|payoff| payoff.value()).collect()
 }
 
-/// Document 01's number for an error of `Utility::new`.
+/// The refusal for an error of `Utility::new`.
 fn utility_number(error: NormalFormError) -> Refusal {
     match error {
         NormalFormError::NonFiniteUtility => refusal(10, []),
@@ -240,7 +240,7 @@ fn utility_number(error: NormalFormError) -> Refusal {
     }
 }
 
-/// Document 01's number and fields for an error of the Rust.
+/// The refusal, with its fields, for an error of the Rust.
 fn number(error: ExtensiveFormError) -> Refusal {
     use ExtensiveFormError::*;
     match error {

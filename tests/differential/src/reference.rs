@@ -1,4 +1,4 @@
-//! Every call's answer on a sheet, said directly from document 01 and without a look at the Rust.
+//! Every call's answer on a sheet, said directly from the rules of docs/ and without a look at the Rust.
 //!
 //! A walk keeps what it found at a node with so much depth left, which changes no answer: those two decide it. It also
 //! counts the visits of a walk that keeps nothing, so that the Rust is not asked where it would not end.

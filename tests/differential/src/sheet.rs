@@ -1,6 +1,6 @@
-//! A sheet's layout and rows, read as document 01 says: refusals 1 to 5, and the order in which 1 to 10 are looked
-//! for. What 6 to 10 are is left to the two sides that use this: the reference says it from 01, the Rust by its
-//! constructors.
+//! A sheet's layout and rows, read as docs/SHEET.md says: refusals 1 to 5, and the order in which 1 to 10 are looked
+//! for. What 6 to 10 are is left to the two sides that use this: the reference says it by docs/REFUSALS.md, the Rust by
+//! its constructors.
 
 use crate::answer::{refusal, Refusal};
 use std::collections::HashSet;
@@ -77,8 +77,8 @@ impl<'a> Sheet<'a> {
         Ok(sheet)
     }
 
-    /// The first fault of a row, in 01's order. The faults of 5 are found here; `construct` is then given the section
-    /// and the row's number, and refuses the row by 6 to 10.
+    /// The first fault of a row, in the order of docs/REFUSALS.md. The faults of 5 are found here; `construct` is then
+    /// given the section and the row's number, and refuses the row by 6 to 10.
     pub fn check_rows(&self, mut construct: impl FnMut(usize, usize) -> Result<(), Refusal>) -> Result<(), Refusal> {
         for section in CHECKED {
             let mut entities = HashSet::new();

@@ -50,7 +50,7 @@ impl Vectors {
         let (cases, asked) = (self.cases, self.asked);
         format!(
             "made by tests/differential/run --vectors FILE: the fixed list of tests/differential/src/fixed, {cases} cases; \
-             the unchanged Rust was asked in {asked}, the other answers are those of document 01\n"
+             the unchanged Rust was asked in {asked}, the other answers are the reference's\n"
         )
     }
 

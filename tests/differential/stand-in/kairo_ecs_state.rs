@@ -1,4 +1,4 @@
-//! Stand-in for the crate `kairo_ecs_state`, as document 01 describes it.
+//! Stand-in for the crate `kairo_ecs_state`, by docs/DIFFERENCES.md 1.
 
 use kairo_ecs_types::EntityId;
 

@@ -1,4 +1,4 @@
-//! Stand-in for the crate `kairo_ecs_types`, as document 01 describes it.
+//! Stand-in for the crate `kairo_ecs_types`, by docs/DIFFERENCES.md 1.
 
 /// An entity is a u32.
 pub type EntityId = u32;

@@ -111,7 +111,7 @@ fn not_reached(bench: &mut Bench) -> Done<()> {
     let two_nodes = "Opening reads every byte, and the Rust's solve visits two nodes.";
     let refused = "Opening reads every byte, and the Rust's solve is refused at the root.";
     let solved = [
-        (Named::new("01's small sheet", fs::read("samples/worked.kgs")?), few),
+        (Named::new("the worked sheet", fs::read("samples/worked.kgs")?), few),
         (Named::of(format!("binary tree of 5 levels, {ADVERSARY}, rows shuffled"), small), places),
         (Named::of("1,023 nodes in sets, one edge from the root", sets_of(1_023, 1, 1_023, 2, 2_000)), two_nodes),
     ];

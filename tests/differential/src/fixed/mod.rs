@@ -1,5 +1,5 @@
-//! The fixed list: document 01's cases P1 to P12 and the boundaries that 01 draws, each with what 01 says, stated by
-//! hand. Every run goes through it; the stored vectors are made from it.
+//! The fixed list: the cases P1 to P12 of docs/SHEET.md and the boundaries that the rules of docs/ draw, each with its
+//! answer, stated by hand. Every run goes through it; the stored vectors are made from it.
 
 mod beside;
 mod largest;
@@ -10,7 +10,7 @@ mod solving;
 use crate::answer::{refusal, Answer, Call, Refusal};
 use crate::draft::Draft;
 
-/// What 01 says about a case.
+/// What a case is to answer.
 pub enum Says {
     Refused(Refusal),
     Answered(Answer),
@@ -113,7 +113,7 @@ fn paths_in(room: usize) -> Call {
 const EACH: [Call; 5] =
     [SOLVE, PLAIN, Call::Paths { start: 1, limit: 0, room: 4 }, Call::Sets { room: 4 }, Call::Topology];
 
-/// 01's small sheet.
+/// The worked sheet.
 fn worked() -> Draft {
     let mut draft = Draft { root: 1, ..Draft::default() };
     let [open, wait, high, low] = ["open", "wait", "high", "low"].map(|text| draft.label(text));
@@ -135,7 +135,7 @@ fn changed(mut draft: Draft, change: impl FnOnce(&mut Draft)) -> Vec<u8> {
     draft.encode()
 }
 
-/// 01's small sheet with something changed about it.
+/// The worked sheet with something changed about it.
 fn but(change: impl FnOnce(&mut Draft)) -> Vec<u8> {
     changed(worked(), change)
 }

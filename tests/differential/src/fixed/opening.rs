@@ -76,7 +76,7 @@ fn claiming(section: usize, rows: usize) -> Vec<u8> {
     sheet
 }
 
-/// 01's small sheet with one u32 changed.
+/// The worked sheet with one u32 changed.
 fn set(section: usize, row: usize, at: usize, value: u32) -> Vec<u8> {
     but(|draft| set_field(&mut draft.sections[section][row], at, value))
 }
@@ -168,7 +168,7 @@ pub fn constructors(list: &mut List) {
     list.accepted("eight payoffs", &most, SOLVE);
 }
 
-/// 01's small sheet with this probability for edge 13.
+/// The worked sheet with this probability for edge 13.
 fn with_probability(probability: f64) -> Vec<u8> {
     but(|draft| draft.sections[CHANCES][1][12..].copy_from_slice(&probability.to_le_bytes()))
 }
@@ -195,7 +195,7 @@ pub fn every_call(list: &mut List) {
     }
 }
 
-/// Of two faults the one that 01 looks for first.
+/// Of two faults the one that is looked for first.
 pub fn check_order(list: &mut List) {
     list.refused("27 before 1", &[], solve(65), 27, [65]);
     list.refused("27 before 1", &[], Call::SolvePlain { start: 1, limit: u64::MAX }, 27, [u64::MAX]);

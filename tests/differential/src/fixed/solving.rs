@@ -1,11 +1,11 @@
-//! Solves: document 01's cases, edges, replies, weighted sums and depth.
+//! Solves: the worked cases, edges, replies, weighted sums and depth.
 
 use super::{but, paths_in, solve, worked, List, Says, PLAIN, SOLVE};
 use crate::answer::{Answer, Call, Kuhn, Refusal, VARIANTS};
 use crate::draft::{field, row, set_field, Draft};
 use crate::sheet::*;
 
-/// P1 to P12.
+/// P1 to P12 of docs/SHEET.md.
 pub fn worked_cases(list: &mut List) {
     let sheet = worked().encode();
     list.solved("P1 solve", &sheet, SOLVE, None, &[0], &[2.0, 3.0]);

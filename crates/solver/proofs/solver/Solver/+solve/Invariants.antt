@@ -1,0 +1,32 @@
+-- The remaining depth falls. The loops' invariants: what the rows that are left make of what is held so far.
+use Rattle.std.proofs.Common.{◌≡◌, ◌+◌, ◌*◌, ◌≤◌}
+use Rattle.solver.specs.Loops.{Deciding, Weighing}
+use Rattle.solver.proofs.solver.Solver.+solve.Given as goal
+
+abbrev pub decreases-solve_node : goal.decreases-solve_node
+decreases-solve_node l = 3 * l.left
+
+abbrev pub decreases-solve_kind : goal.decreases-solve_kind
+decreases-solve_kind l = 3 * l.left + 2
+
+abbrev pub decreases-solve_decision : goal.decreases-solve_decision
+decreases-solve_decision l = 3 * l.left + 1
+
+abbrev pub decreases-solve_chance : goal.decreases-solve_chance
+decreases-solve_chance l = 3 * l.left + 1
+
+abbrev pub invariant-solve_decision-loop-child : goal.invariant-solve_decision-loop-child
+invariant-solve_decision-loop-child l =
+    record {
+      same_task : l.self.task ≡ l.fn.self.task;
+      low : l.deepest ≤ l.left;
+      deciding : Deciding l.fn.self.task.now l.entity l.player l.deepest l.lead l.child-iterator;
+    }
+
+abbrev pub invariant-solve_chance-loop-child : goal.invariant-solve_chance-loop-child
+invariant-solve_chance-loop-child l =
+    record {
+      same_task : l.self.task ≡ l.fn.self.task;
+      low : l.deepest ≤ l.left;
+      weighing : Weighing l.fn.self.task.now l.entity l.deepest l.sums l.child-iterator;
+    }

@@ -1,0 +1,236 @@
+//! The solve of a node by what it is: a decision solves its replies and a chance node its outcomes, and the remaining depth falls.
+ghost use Rattle.std.specs.Prelude.{◌≡◌, ℕ, ◌+◌, ◌<◌, ◌≤◌, Err, Some, IfOk, IfSome, IfNone, length};
+ghost use Rattle.layout.specs.Layout.{row_count, field};
+ghost use Rattle.layout.specs.declared.section.Section.TheVariants.{Nodes};
+ghost use Rattle.game.specs.declared.Kind.TheVariants as Kinds;
+ghost use Rattle.sheet.specs.Found.{NodeAt};
+ghost use Rattle.memo.specs.Kept.{IsUnknown, IsMemo, IsRight};
+ghost use Rattle.turns.specs.Plays.{actions_from};
+ghost use Rattle.solver.specs.Tasks.{solved, told_of, actions_at, Answered, solution_in};
+ghost use Rattle.solver.specs.Kinds.{GoesBy};
+ghost use Rattle.solver.specs.Solutions.{labels_of, solution_of};
+
+use crate::solution::{Labels, Solution};
+use crate::task::Task;
+use answer::Refusal;
+use backward_induction::Method;
+use game::{ActionEdge, Kind};
+use memo::Kept;
+use turns::{Payoffs, Play, Reply, better};
+
+/// A solve: what is asked, and a row for each node with its answer once it is known, lent by the caller.
+#[derive(Drop)]
+pub struct Solver<'a> {
+    pub task: &'a Task<'a>,
+    pub memo: &'a mut [Option<Kept<Play>>],
+    ghost room: { row_count task.now.sheet.now Nodes ≤ length memo.now },
+    ghost right: { IsMemo (solved task.now) (told_of task.now) (λ i. field task.now.sheet.now Nodes i 0) memo.now },
+}
+
+impl<'a> Solver<'a> {
+    /// The answer of a node with so much depth left. The stack that it takes grows with the depth.
+    #[cycle(solve)]
+    #[tactic(auto, using(crate::proofs::KindLaws::steps))]
+    pub fn solve_node(&mut self, entity: u32, left: usize) -> Result<Kept<Play>, Refusal>
+        requires { left ≤ 64 }
+        ensures kept { IfOk result (Answered self.old.task.now left entity) }
+        ensures answer { solution_in self.old.task.now result ≡ solved self.old.task.now left entity }
+        ensures same_task { self.new.task ≡ self.old.task }
+    {
+        if left == 0 {
+            return Err(Refusal::DepthSpent { entity });
+        }
+        let task = self.task;
+        let row = task.row_of(entity).ok_or(Refusal::MissingNode { entity })?;
+        if let Some(kept) = self.known(row, left) {
+            return Ok(*kept);
+        }
+        let kind = sheet::node_row(task.sheet, row).kind;
+        let kept = self.solve_kind(entity, row, kind, left - 1)?;
+        self.keep(row, kept);
+        Ok(kept)
+    }
+
+    /// What is kept of the node of a row, where it holds with so much depth left.
+    fn known(&self, row: usize, left: usize) -> Option<&Kept<Play>>
+        requires { row < row_count self.now.task.now.sheet.now Nodes }
+        ensures unknown { IfNone result (IsUnknown self.now.memo.now row left) }
+        ensures known { IfSome result (λ kept. Answered self.now.task.now left (field self.now.task.now.sheet.now Nodes row 0) kept.now) }
+    {
+        memo::known(self.memo, row, left)
+    }
+
+    /// Keeps the answer of the node of a row.
+    fn keep(&mut self, row: usize, kept: Kept<Play>)
+        requires within { row < row_count self.old.task.now.sheet.now Nodes }
+        requires right { IsRight (solved self.old.task.now) (told_of self.old.task.now) (field self.old.task.now.sheet.now Nodes row 0) kept }
+        ensures { self.new.task ≡ self.old.task }
+    {
+        memo::keep(self.memo, row, kept);
+    }
+
+    /// The answer of a node that is not known yet.
+    #[cycle(solve)]
+    fn solve_kind(
+        &mut self,
+        entity: u32,
+        row: usize,
+        kind: Kind,
+        left: usize,
+    ) -> Result<Kept<Play>, Refusal>
+        requires node { NodeAt self.old.task.now.sheet.now row entity }
+        requires unknown { IsUnknown self.old.memo.now row (left + 1) }
+        requires kind { GoesBy self.old.task.now entity kind }
+        requires low { left < 64 }
+        ensures kept { IfOk result (Answered self.old.task.now (left + 1) entity) }
+        ensures answer { solution_in self.old.task.now result ≡ solved self.old.task.now (left + 1) entity }
+        ensures same_task { self.new.task ≡ self.old.task }
+    {
+        match kind {
+            Kind::Terminal => self.solve_terminal(entity),
+            Kind::Decision { player } => self.solve_decision(entity, row, player, left),
+            Kind::Chance => self.solve_chance(entity, row, left),
+        }
+    }
+
+    /// A terminal is worth its payoffs.
+    fn solve_terminal(&self, entity: u32) -> Result<Kept<Play>, Refusal>
+        requires { GoesBy self.now.task.now entity Kinds.Terminal }
+        ensures kept { IfOk result (IsRight (solved self.now.task.now) (told_of self.now.task.now) entity) }
+        ensures low { IfOk result (λ kept. kept.height ≡ 1) }
+        ensures answer { (left : ℕ) → solution_in self.now.task.now result ≡ solved self.now.task.now (left + 1) entity }
+    {
+        let task = self.task;
+        let terminal = sheet::find_terminal(task.sheet, task.hints, entity).ok_or(
+            Refusal::MissingTerminalUtility { entity },
+        )?;
+        let payoffs = task.payoffs(terminal);
+        let play = Play {
+            terminal: Some(entity),
+            first: None,
+            payoffs,
+        };
+        Ok(Kept {
+            height: 1,
+            answer: play,
+        })
+    }
+
+    /// A decision takes the best of its replies for the player.
+    #[cycle(solve)]
+    fn solve_decision(
+        &mut self,
+        entity: u32,
+        row: usize,
+        player: u32,
+        left: usize,
+    ) -> Result<Kept<Play>, Refusal>
+        requires node { NodeAt self.old.task.now.sheet.now row entity }
+        requires kind { GoesBy self.old.task.now entity (Kinds.Decision player) }
+        requires low { left < 64 }
+        ensures kept { IfOk result (Answered self.old.task.now (left + 1) entity) }
+        ensures answer { solution_in self.old.task.now result ≡ solved self.old.task.now (left + 1) entity }
+        ensures same_task { self.new.task ≡ self.old.task }
+    {
+        let task = self.task;
+        let mut lead = None;
+        let mut deepest = 0;
+        for child in task.replies(entity, row)? {
+            let Some(edge) = task.action_in(entity, child) else {
+                continue;
+            };
+            let kept = self.solve_node(edge.target, left)?;
+            let reply = Reply::new(edge, kept.answer, player)?;
+            lead = Some(better(lead, reply));
+            deepest = deepest.max(kept.height);
+        }
+        let best = lead.ok_or(Refusal::NoOutgoingActions { entity })?;
+        Ok(Kept {
+            height: deepest + 1,
+            answer: best.taken(),
+        })
+    }
+
+    /// A chance node is worth the weighted sums of its outcomes; the plain method refuses it.
+    #[cycle(solve)]
+    fn solve_chance(&mut self, entity: u32, row: usize, left: usize) -> Result<Kept<Play>, Refusal>
+        requires node { NodeAt self.old.task.now.sheet.now row entity }
+        requires kind { GoesBy self.old.task.now entity Kinds.Chance }
+        requires low { left < 64 }
+        ensures kept { IfOk result (Answered self.old.task.now (left + 1) entity) }
+        ensures answer { solution_in self.old.task.now result ≡ solved self.old.task.now (left + 1) entity }
+        ensures same_task { self.new.task ≡ self.old.task }
+    {
+        let task = self.task;
+        if let Method::Plain = task.method {
+            return Err(Refusal::UnsupportedChanceNode { entity });
+        }
+        let mut sums = None;
+        let mut deepest = 0;
+        for child in task.outcomes(entity, row)? {
+            let Some(outcome) = task.outcome_in(entity, child) else {
+                continue;
+            };
+            let kept = self.solve_node(outcome.target, left)?;
+            let payoffs = kept.answer.payoffs;
+            sums = Some(Payoffs::added(entity, sums, outcome.probability, payoffs)?);
+            deepest = deepest.max(kept.height);
+        }
+        let payoffs = sums.ok_or(Refusal::NoOutgoingChanceOutcomes { entity })?;
+        if !payoffs.is_in_range() {
+            return Err(Refusal::OutOfRange { entity });
+        }
+        let play = Play {
+            terminal: None,
+            first: None,
+            payoffs,
+        };
+        Ok(Kept {
+            height: deepest + 1,
+            answer: play,
+        })
+    }
+
+    /// The edge that the play from a node begins with, where there is one.
+    #[tactic(auto, using(crate::proofs::PlayLaws::plays))]
+    fn first_edge(&mut self, entity: u32) -> Option<ActionEdge>
+        ensures actions { actions_at self.old.task.now entity ≡ actions_from (actions_at self.old.task.now) result }
+        ensures same_task { self.new.task ≡ self.old.task }
+    {
+        match self.solve_node(entity, 64) {
+            Ok(kept) => kept.answer.first,
+            Err(_) => None,
+        }
+    }
+
+    /// The labels along a play that begins with an edge. Each node of it is looked up again, and its answer is known.
+    fn labels(&mut self, first: Option<ActionEdge>) -> Labels
+        requires { length (actions_from (actions_at self.old.task.now) first) ≤ 64 }
+        ensures labels { labels_of result ≡ actions_from (actions_at self.old.task.now) first }
+        ensures same_task { self.new.task ≡ self.old.task }
+    {
+        let mut numbers = [0u32; 64];
+        let mut count = 0;
+        let mut next = first;
+        while let Some(edge) = next {
+            numbers[count] = edge.label;
+            count += 1;
+            next = self.first_edge(edge.target);
+        }
+        Labels { count, numbers }
+    }
+
+    /// The solution of a play.
+    pub fn solution(&mut self, play: Play) -> Solution
+        requires { length (actions_from (actions_at self.old.task.now) play.first) ≤ 64 }
+        ensures { solution_of result ≡ told_of self.old.task.now play }
+    {
+        let labels = self.labels(play.first);
+        let payoffs = play.payoffs.cleared();
+        Solution {
+            terminal: play.terminal,
+            labels,
+            payoffs,
+        }
+    }
+}
