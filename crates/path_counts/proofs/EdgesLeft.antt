@@ -3,7 +3,6 @@ use Rattle.std.proofs.Common.{◌≡◌, ℕ, ◌+◌, ◌≤◌, ◌<◌, List,
 use Rattle.answer.specs.Checks.{checked}
 use Rattle.answer.specs.declared.Refusal.{Refusal}
 use Rattle.layout.specs.Layout.{row_count}
-use Rattle.lookup.specs.Hints.{Noted}
 use Rattle.layout.specs.declared.section.Section.TheVariants.{Children}
 use Rattle.graph_relations.specs.RelationRows.{child_row}
 use Rattle.game.specs.declared.ActionEdge.{ActionEdge}
@@ -27,18 +26,17 @@ module _ (s : List ℕ) (source n i : ℕ) where
   unfolding edges_left
   left_are xs h = rw h
 
-module _ (s hints : List ℕ) (source n i : ℕ) (left : AreSound s hints source n i) where
+module _ (s : List ℕ) (source n i : ℕ) (left : AreSound s source n i) where
   -- row i has no fault
   pub sound_at : i < n → checked (action_edge_in (game_of s) source (child_row s i)) ≡ Ok tt
   sound_at l = left_sound (action_edge_in (game_of s) source) (child_row s) n i _ (all_left s source n i left.sound) l
 
-  pub sound_next : (o : Option ActionEdge) → i < n → action_edge_in (game_of s) source (child_row s i) ≡ Ok o → AreSound s hints source n (i + 1)
+  pub sound_next : (o : Option ActionEdge) → i < n → Ok o ≡ action_edge_in (game_of s) source (child_row s i) → AreSound s source n (i + 1)
   sound_next o l h =
       record {
-        noted = left.noted;
         counted = left.counted;
         within = omega arith;
-        sound = sym (from_fault_next (action_edge_in (game_of s) source) (child_row s) n i o l h) ∙ left.sound;
+        sound = sym (from_fault_next (action_edge_in (game_of s) source) (child_row s) n i o l (sym h)) ∙ left.sound;
       }
 
   pub left_edge : (x : ActionEdge) → i < n → action_edge_in (game_of s) source (child_row s i) ≡ Ok (Some x) → edges_left s source n i ≡ x ∷ edges_left s source n (i + 1)
@@ -53,12 +51,12 @@ module _ (s hints : List ℕ) (source n i : ℕ) (left : AreSound s hints source
   pub left_none : n ≤ i → edges_left s source n i ≡ []
   left_none l = left_are s source n i [] (from_end (action_edge_in (game_of s) source) (child_row s) n i l)
 
-pub ruleset edge_steps = (sound_next, left_edge, left_other, left_none)
+pub ruleset edge_steps = (sound_at, sound_next, left_edge, left_other, left_none)
 
 -- all edges of a node, none of which has a fault
-module _ (s hints : List ℕ) (source n : ℕ) (noted : Noted s hints) (counted : n ≡ row_count s Children) (sound : checked (outgoing_action_edges (game_of s) source) ≡ Ok tt) where
-  pub all_sound : AreSound s hints source n 0
-  all_sound = record { noted = noted; counted = counted; within = omega arith; sound = ap checked (sym (actions_walk s source n counted)) ∙ sound }
+module _ (s : List ℕ) (source n : ℕ) (counted : n ≡ row_count s Children) (sound : checked (outgoing_action_edges (game_of s) source) ≡ Ok tt) where
+  pub all_sound : AreSound s source n 0
+  all_sound = record { counted = counted; within = omega arith; sound = ap checked (sym (actions_walk s source n counted)) ∙ sound }
 
   pub edges_all : outgoing_action_edges (game_of s) source ≡ Ok (edges_left s source n 0)
   edges_all = actions_walk s source n counted ∙ all_left s source n 0 all_sound.sound

@@ -3,7 +3,6 @@ use Rattle.std.specs.Prelude.{ℕ, ◌≤◌, ◌≡◌, List, [], Result, Ok, E
 use Rattle.answer.specs.Checks.{checked}
 use Rattle.answer.specs.declared.Refusal.{Refusal}
 use Rattle.layout.specs.Layout.{row_count}
-use Rattle.lookup.specs.Hints.{Noted}
 use Rattle.layout.specs.declared.section.Section.TheVariants.{Children}
 use Rattle.graph_relations.specs.RelationRows.{child_row}
 use Rattle.game.specs.declared.ActionEdge.{ActionEdge}
@@ -22,8 +21,7 @@ unfoldable pub edges_left : List ℕ → ℕ → ℕ → ℕ → List ActionEdge
 edges_left s source n i = found_in (walked s source n i)
 
 -- none of the edges that are left has a fault
-pub record AreSound (s hints : List ℕ) (source n i : ℕ) : Type 0 where
-  pub noted : Noted s hints
+pub record AreSound (s : List ℕ) (source n i : ℕ) : Type 0 where
   pub counted : n ≡ row_count s Children
   pub within : i ≤ n
   pub sound : checked (walked s source n i) ≡ Ok tt

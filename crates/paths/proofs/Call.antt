@@ -61,3 +61,5 @@ module _ (g : Game) (depth e : ℕ) (out : List ℕ) (n : ℕ) (counts : size_fr
     pub all_listed : (end : ℕ) (out' : List ℕ) → Writes out 0 (words_from g depth e labels) out' end → (Ok end, out') ≡ effect out (listing_from g depth e (length out))
     unfolding effect written
     all_listed end out' (q, o) = rw (q, o, none, (all_fit g depth e (length out) n counts fits small).0, zero-add)
+
+pub ruleset list_steps = (fault_first, sound_first, room_first)

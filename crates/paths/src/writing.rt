@@ -6,16 +6,16 @@ ghost use Rattle.number.specs.Number.{to_bits};
 ghost use Rattle.rows.specs.Store.{rows_from};
 ghost use Rattle.text.specs.Written.{Writes};
 ghost use Rattle.layout.specs.Layout.{row_count};
-ghost use Rattle.lookup.specs.Hints.{Noted};
 ghost use Rattle.layout.specs.declared.section.Section.TheVariants.{Payoffs};
-ghost use Rattle.sheet.specs.Meaning.{payoff_row, game_of, Opens};
+ghost use Rattle.sheet.specs.Meaning.{payoff_row, game_of};
 ghost use Rattle.sheet.specs.Found.{InSheet};
 ghost use Rattle.path_counts.specs.Paths.{paths, record_of};
 ghost use Rattle.paths.specs.Writing.{words_from, path_to, EndsAt, GoesOn};
 
 use arrayvec::ArrayVec;
 use game::Kind;
-use sheet::Terminal;
+use lookup::Lookup;
+use sheet::{Sheet, Terminal};
 
 /// Writes labels at a place of the buffer; the answer is the place after them.
 #[tactic(auto, using(crate::proofs::Words::label_steps))]
@@ -32,18 +32,18 @@ fn write_labels(out: &mut [u64], at: usize, labels: &[u32]) -> usize
 }
 
 #[tactic(auto, using(opening::proofs::AcceptedFields::payoff_finite), unfolding(sheet::specs::Meaning::payoff_row))]
-fn payoff_bits(sheet: &[u8], j: usize) -> u64
-    requires { Opens sheet.now × (j < row_count sheet.now Payoffs) }
-    ensures { result ≡ to_bits (payoff_row sheet.now j) }
+fn payoff_bits(sheet: Sheet, j: usize) -> u64
+    requires { j < row_count sheet.bytes.now Payoffs }
+    ensures { result ≡ to_bits (payoff_row sheet.entry.bytes.now j) }
 {
-    number::to_bits(sheet::payoff(sheet, j).value())
+    number::to_bits(sheet.payoff(j).value())
 }
 
 /// Writes the bits of payoff rows at a place of the buffer; the answer is the place after them.
 #[tactic(auto, using(crate::proofs::Words::payoff_steps))]
-fn write_payoffs(sheet: &[u8], out: &mut [u64], at: usize, first: usize, count: usize) -> usize
-    requires { Opens sheet.now × (first + count ≤ row_count sheet.now Payoffs) × (at + count ≤ length out.old) }
-    ensures { Writes out.old at (map to_bits (rows_from (payoff_row sheet.now) first count)) out.new result }
+fn write_payoffs(sheet: Sheet, out: &mut [u64], at: usize, first: usize, count: usize) -> usize
+    requires { (first + count ≤ row_count sheet.bytes.now Payoffs) × (at + count ≤ length out.old) }
+    ensures { Writes out.old at (map to_bits (rows_from (payoff_row sheet.entry.bytes.now) first count)) out.new result }
 {
     let mut end = at;
     for j in first..first + count {
@@ -55,10 +55,10 @@ fn write_payoffs(sheet: &[u8], out: &mut [u64], at: usize, first: usize, count: 
 
 /// Writes the path to a terminal by the labels at a place of the buffer; the answer is the place after it.
 #[tactic(auto, using(crate::proofs::Records::record_steps))]
-fn write_path(sheet: &[u8], out: &mut [u64], at: usize, labels: &[u32], terminal: Terminal) -> usize
-    requires terminal { Opens sheet.now × InSheet sheet.now terminal }
-    requires room { at + length (record_of (path_to sheet.now terminal labels.now)) ≤ length out.old }
-    ensures { Writes out.old at (record_of (path_to sheet.now terminal labels.now)) out.new result }
+fn write_path(sheet: Sheet, out: &mut [u64], at: usize, labels: &[u32], terminal: Terminal) -> usize
+    requires terminal { InSheet sheet.bytes.now terminal }
+    requires room { at + length (record_of (path_to sheet.bytes.now terminal labels.now)) ≤ length out.old }
+    ensures { Writes out.old at (record_of (path_to sheet.entry.bytes.now terminal labels.now)) out.new result }
 {
     out[at] = u64::from(terminal.entity);
     out[at + 1] = terminal.count as u64;
@@ -69,14 +69,13 @@ fn write_path(sheet: &[u8], out: &mut [u64], at: usize, labels: &[u32], terminal
 
 /// The terminal that a node is, where it is one.
 #[tactic(auto, using(crate::proofs::Ends::end_steps))]
-fn terminal_at(sheet: &[u8], hints: &[u16], entity: u32) -> Option<Terminal>
-    requires { Noted sheet.now hints.now }
-    ensures ends { IfSome result (EndsAt sheet.now entity) }
-    ensures in_sheet { IfSome result (InSheet sheet.now) }
-    ensures goes_on { IfNone result (GoesOn (game_of sheet.now) entity) }
+fn terminal_at(lookup: Lookup, entity: u32) -> Option<Terminal>
+    ensures ends { IfSome result (EndsAt lookup.entry.sheet.now entity) }
+    ensures in_sheet { IfSome result (InSheet lookup.entry.sheet.now) }
+    ensures goes_on { IfNone result (GoesOn (game_of lookup.entry.sheet.now) entity) }
 {
-    match sheet::find_node(sheet, hints, entity)?.kind {
-        Kind::Terminal => sheet::find_terminal(sheet, hints, entity),
+    match sheet::node_of(lookup, entity)?.kind {
+        Kind::Terminal => sheet::terminal_of(lookup, entity),
         _ => None,
     }
 }
@@ -86,24 +85,28 @@ fn terminal_at(sheet: &[u8], hints: &[u16], entity: u32) -> Option<Terminal>
 #[cycle(write)]
 #[tactic(auto, using(crate::proofs::Steps::walk_steps))]
 pub fn write_paths(
-    sheet: &[u8],
-    hints: &[u16],
+    lookup: Lookup,
     out: &mut [u64],
     at: usize,
     labels: &mut ArrayVec<u32, 64>,
     entity: u32,
     left: usize,
 ) -> usize
-    requires noted { Noted sheet.now hints.now }
-    requires sound { checked (paths (game_of sheet.now) left entity) ≡ Ok tt }
+    requires sound { checked (paths (game_of lookup.sheet.now) left entity) ≡ Ok tt }
     requires deep { array_vec_len labels.old + left ≤ 64 }
-    requires room { at + length (words_from (game_of sheet.now) left entity labels.old.items) ≤ length out.old }
-    ensures words { Writes out.old at (words_from (game_of sheet.now) left entity labels.old.items) out.new result }
+    requires room { at + length (words_from (game_of lookup.sheet.now) left entity labels.old.items) ≤ length out.old }
+    ensures words { Writes out.old at (words_from (game_of lookup.entry.sheet.now) left entity labels.old.items) out.new result }
     ensures labels { labels.new.items ≡ labels.old.items }
 {
-    match terminal_at(sheet, hints, entity) {
-        Some(terminal) => write_path(sheet, out, at, labels.as_slice(), terminal),
-        None => write_edges(sheet, hints, out, at, labels, entity, left),
+    match terminal_at(lookup, entity) {
+        Some(terminal) => write_path(
+            sheet::sheet_of(lookup),
+            out,
+            at,
+            labels.as_slice(),
+            terminal,
+        ),
+        None => write_edges(lookup, out, at, labels, entity, left),
     }
 }
 
@@ -111,26 +114,24 @@ pub fn write_paths(
 #[cycle(write)]
 #[tactic(auto, using(crate::proofs::Steps::walk_steps))]
 fn write_edges(
-    sheet: &[u8],
-    hints: &[u16],
+    lookup: Lookup,
     out: &mut [u64],
     at: usize,
     labels: &mut ArrayVec<u32, 64>,
     entity: u32,
     left: usize,
 ) -> usize
-    requires noted { Noted sheet.now hints.now }
-    requires goes_on { GoesOn (game_of sheet.now) entity }
-    requires sound { checked (paths (game_of sheet.now) left entity) ≡ Ok tt }
+    requires goes_on { GoesOn (game_of lookup.sheet.now) entity }
+    requires sound { checked (paths (game_of lookup.sheet.now) left entity) ≡ Ok tt }
     requires deep { array_vec_len labels.old + left ≤ 64 }
-    requires room { at + length (words_from (game_of sheet.now) left entity labels.old.items) ≤ length out.old }
-    ensures words { Writes out.old at (words_from (game_of sheet.now) left entity labels.old.items) out.new result }
+    requires room { at + length (words_from (game_of lookup.sheet.now) left entity labels.old.items) ≤ length out.old }
+    ensures words { Writes out.old at (words_from (game_of lookup.entry.sheet.now) left entity labels.old.items) out.new result }
     ensures labels { labels.new.items ≡ labels.old.items }
 {
     let mut end = at;
-    for edge in path_counts::sound_actions(sheet, hints, entity) {
+    for edge in path_counts::sound_actions(lookup, entity) {
         labels.push(edge.label);
-        end = write_paths(sheet, hints, out, end, labels, edge.target, left - 1);
+        end = write_paths(lookup, out, end, labels, edge.target, left - 1);
         labels.pop();
     }
     end

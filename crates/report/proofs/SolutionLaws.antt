@@ -1,5 +1,5 @@
 -- Of a sheet that opens the payoffs of a solution are finite, so that they can be printed; and what the program prints.
-use Rattle.std.specs.Prelude.{Result, Err, Ok}
+use Rattle.std.specs.Prelude.{Err, Ok}
 use Prim.Native.Nat.{ℕ, zero, suc, ◌≤◌, ◌<◌}
 use mathlib.Core.Path.{◌≡◌, refl, sym, ap, ◌∙◌}
 use mathlib.Core.Bool.{Bool, true, false, ◌&&◌}
@@ -53,7 +53,3 @@ solution_finite method s ok start limit most x e =
 pub printed_refused : (s : List ℕ) (r : Refusal) → opening s ≡ Err r → printed s ≡ refused_line r
 unfolding printed report
 printed_refused s r e = ap (report (game_of s)) (call_unopened ChanceWeighted s (root_of s) 0 (omega arith) r e)
-
-pub printed_is : (s : List ℕ) (a : Result Solution Refusal) (root : ℕ) → root ≡ root_of s → a ≡ solution ChanceWeighted s root 0 → printed s ≡ report (game_of s) a
-unfolding printed
-printed_is s a root q e = rw (e, q) refl

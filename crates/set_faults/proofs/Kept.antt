@@ -3,7 +3,6 @@ use Rattle.std.proofs.Common.{◌≡◌, ℕ, ◌+◌, ◌<◌, ◌≤◌, refl,
 use Rattle.std.specs.Prelude.{Option}
 use Rattle.std.specs.List.{cons_option}
 use Rattle.rows.proofs.StoreLaws.{rows_next, rows_end}
-use Rattle.sheet.proofs.OpeningLaws.{opens_layout}
 use Rattle.set_faults.specs.Words.{kept_from}
 
 module _ {R : Type 0} (f : R → Option ℕ) (row : ℕ → R) (n i : ℕ) where
@@ -15,4 +14,4 @@ module _ {R : Type 0} (f : R → Option ℕ) (row : ℕ → R) (n i : ℕ) where
   unfolding kept_from
   kept_end l = rw (rows_end row i n l) refl
 
-pub ruleset kept_rows = (opens_layout, kept_next, kept_end)
+pub ruleset kept_rows = (kept_next, kept_end)

@@ -21,7 +21,7 @@ use Rattle.backward_induction.specs.Turns.{sums_from}
 use Rattle.backward_induction.proofs.SolveLaws.{best_of_from, sums_of_from, in_range_lem, not_in_range}
 use Rattle.turns.specs.declared.Play.{Play}
 use Rattle.solver.specs.declared.task.Task.{Task}
-use Rattle.solver.specs.Tasks.{solved, told_of, Answered}
+use Rattle.solver.specs.Tasks.{bytes_of, solved, told_of, Answered}
 use Rattle.solver.specs.Given.{given_by, AreSound, action_at, outcome_at}
 use Rattle.solver.specs.Kinds.{GoesBy}
 use Rattle.solver.specs.Loops.{Deciding, Weighing}
@@ -38,12 +38,12 @@ module _ (t : Task) (e : ℕ) where
   unfolding solve
   solved_zero left h = rw h refl
 
-  pub solved_missing : (left : ℕ) → (left ≡ 0 → ⊥) → kind_of (game_of t.sheet.now) e ≡ None → solved t left e ≡ Err (MissingNode e)
+  pub solved_missing : (left : ℕ) → (left ≡ 0 → ⊥) → kind_of (game_of (bytes_of t)) e ≡ None → solved t left e ≡ Err (MissingNode e)
   unfolding solve step
   solved_missing zero some h = absurd (some refl)
   solved_missing (suc d) some h = rw h refl
 
-  pub goes_by : (kind : Kind) → kind_of (game_of t.sheet.now) e ≡ Some kind → GoesBy t e kind
+  pub goes_by : (kind : Kind) → kind_of (game_of (bytes_of t)) e ≡ Some kind → GoesBy t e kind
   unfolding solve step
   goes_by kind h = record { step = λ d. rw (add-one, h) refl }
 
@@ -57,29 +57,29 @@ module _ (t : Task) (e : ℕ) where
       go (suc d) h = let one_more : d + 1 ≡ suc d = omega arith in rw (← one_more) (right d (omega arith))
 
   -- ---- a terminal
-  pub terminal_missing : GoesBy t e Kinds.Terminal → terminal_of (game_of t.sheet.now) e ≡ None → (d : ℕ) → solved t (d + 1) e ≡ Err (MissingTerminalUtility e)
+  pub terminal_missing : GoesBy t e Kinds.Terminal → terminal_of (game_of (bytes_of t)) e ≡ None → (d : ℕ) → solved t (d + 1) e ≡ Err (MissingTerminalUtility e)
   unfolding at_kind
   terminal_missing by h d = by.step d ∙ rw h refl
 
-  pub terminal_found : GoesBy t e Kinds.Terminal → (u : TerminalUtility) → terminal_of (game_of t.sheet.now) e ≡ Some u
+  pub terminal_found : GoesBy t e Kinds.Terminal → (u : TerminalUtility) → terminal_of (game_of (bytes_of t)) e ≡ Some u
       → (d : ℕ) → solved t (d + 1) e ≡ Ok (record { terminal = Some e; actions = []; payoffs = u.payoffs })
   unfolding at_kind
   terminal_found by u h d = by.step d ∙ rw h refl
 
   -- ---- a decision
   module _ (p : ℕ) (by : GoesBy t e (Kinds.Decision p)) where
-    pub decision_refused : (r : Refusal) → Err r ≡ outgoing_action_edges (game_of t.sheet.now) e → (d : ℕ) → solved t (d + 1) e ≡ Err r
+    pub decision_refused : (r : Refusal) → Err r ≡ outgoing_action_edges (game_of (bytes_of t)) e → (d : ℕ) → solved t (d + 1) e ≡ Err r
     unfolding at_kind
     decision_refused r h d = by.step d ∙ rw (← h) refl
 
-    pub decision_starts : (rows : List ℕ) → Ok (given_by (action_at t.sheet.now e) rows) ≡ outgoing_action_edges (game_of t.sheet.now) e → AreSound t.sheet.now (action_at t.sheet.now e) rows
+    pub decision_starts : (rows : List ℕ) → Ok (given_by (action_at (bytes_of t) e) rows) ≡ outgoing_action_edges (game_of (bytes_of t)) e → AreSound (bytes_of t) (action_at (bytes_of t) e) rows
         → Deciding t e p 0 None rows
     unfolding at_kind
     decision_starts rows h sound =
         record {
           sound = sound;
           lead_is = record { follows = λ r q. absurd cc };
-          left = λ d _. by.step d ∙ rw (← h, best_of_from (solved t d) p e (given_by (action_at t.sheet.now e) rows)) refl;
+          left = λ d _. by.step d ∙ rw (← h, best_of_from (solved t d) p e (given_by (action_at (bytes_of t) e) rows)) refl;
         }
 
   -- ---- a chance node
@@ -89,14 +89,14 @@ module _ (t : Task) (e : ℕ) where
     chance_plain m d = by.step d ∙ rw m refl
 
     module _ (m : t.method ≡ Methods.ChanceWeighted) where
-      pub chance_refused : (r : Refusal) → Err r ≡ outgoing_chance_outcomes (game_of t.sheet.now) e → (d : ℕ) → solved t (d + 1) e ≡ Err r
+      pub chance_refused : (r : Refusal) → Err r ≡ outgoing_chance_outcomes (game_of (bytes_of t)) e → (d : ℕ) → solved t (d + 1) e ≡ Err r
       unfolding at_kind at_chance
       chance_refused r h d = by.step d ∙ rw (m, ← h) refl
 
-      pub chance_starts : (rows : List ℕ) → Ok (given_by (outcome_at t.sheet.now e) rows) ≡ outgoing_chance_outcomes (game_of t.sheet.now) e
-          → AreSound t.sheet.now (outcome_at t.sheet.now e) rows → Weighing t e 0 None rows
+      pub chance_starts : (rows : List ℕ) → Ok (given_by (outcome_at (bytes_of t) e) rows) ≡ outgoing_chance_outcomes (game_of (bytes_of t)) e
+          → AreSound (bytes_of t) (outcome_at (bytes_of t) e) rows → Weighing t e 0 None rows
       chance_starts rows h sound =
-          record { sound = sound; left = λ d _. by.step d ∙ weighted_at t.method (game_of t.sheet.now) (solved t d) e _ m h }
+          record { sound = sound; left = λ d _. by.step d ∙ weighted_at t.method (game_of (bytes_of t)) (solved t d) e _ m h }
 
   pub out_of_range : (vs : List Number) → false ≡ all_finite vs → weighed e vs ≡ Err (OutOfRange e)
   out_of_range vs h = rw (not_in_range e vs (sym h)) refl

@@ -2,6 +2,8 @@
 use Rattle.std.proofs.Common.{◌≡◌, ℕ, zero, suc, ◌+◌, ◌-◌, ◌<◌, ◌≤◌, List, [], ◌∷◌, ◌++◌, Ok, Err, length, take, drop, replicate, slice_set, refl, sym, ap, arith, add-one, length-append}
 use lib.ListN.{length-take}
 use Rattle.answer.specs.declared.Refusal.{Refusal}
+use Rattle.sheet.proofs.AcceptedGame.{accepted}
+use Rattle.backward_induction.proofs.Bounds.{solve_sized}
 use Rattle.memo.specs.declared.Kept.{Kept}
 use Rattle.turns.specs.declared.Play.{Play}
 use Rattle.turns.specs.Plays.{actions_from}
@@ -16,6 +18,10 @@ actions_solved t e kept h = ap actions_in (sym h)
 pub actions_refused : (t : Task) (e : ℕ) (r : Refusal) → Err r ≡ solved t 64 e → actions_at t e ≡ []
 unfolding actions_at
 actions_refused t e r h = ap actions_in (sym h)
+
+-- with a depth of at most 64 an answer has at most 64 actions
+pub few_actions : (t : Task) (depth e : ℕ) (play : Play) → depth ≤ 64 → Ok (told_of t play) ≡ solved t depth e → length (actions_from (actions_at t) play.first) ≤ 64
+few_actions t depth e play low h = let few = (solve_sized t.method _ (accepted _ t.links.lookup.noted.opens) depth e _ (sym h)).actions in omega arith
 
 pub ruleset plays = (actions_solved, actions_refused)
 

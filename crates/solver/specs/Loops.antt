@@ -8,7 +8,7 @@ use Rattle.turns.specs.declared.payoffs.Payoffs.{Payoffs}
 use Rattle.turns.specs.Payoffs.{payoffs_of}
 use Rattle.turns.specs.Plays.{actions_from, reply_of}
 use Rattle.solver.specs.declared.task.Task.{Task}
-use Rattle.solver.specs.Tasks.{solved, actions_at}
+use Rattle.solver.specs.Tasks.{bytes_of, solved, actions_at}
 use Rattle.solver.specs.Given.{given_by, AreSound, action_at, outcome_at}
 
 -- the actions from the lead's target on are those of the answer that it holds
@@ -17,13 +17,13 @@ pub record IsLead (t : Task) (lead : Option Reply) : Type 0 where
 
 -- the decision e of the player p: with any depth from `deepest` on for the targets, its answer is what the rows that are left make of the lead
 pub record Deciding (t : Task) (e p deepest : ℕ) (lead : Option Reply) (rows : List ℕ) : Type 0 where
-  pub sound : AreSound t.sheet.now (action_at t.sheet.now e) rows
+  pub sound : AreSound (bytes_of t) (action_at (bytes_of t) e) rows
   pub lead_is : IsLead t lead
   pub left : (d : ℕ) → deepest ≤ d
-      → solved t (d + 1) e ≡ (best_from (solved t d) e p (option_map (reply_of (actions_at t)) lead) (given_by (action_at t.sheet.now e) rows) >>= λ r. Ok (taken r))
+      → solved t (d + 1) e ≡ (best_from (solved t d) e p (option_map (reply_of (actions_at t)) lead) (given_by (action_at (bytes_of t) e) rows) >>= λ r. Ok (taken r))
 
 -- the chance node e: the same of the sums so far
 pub record Weighing (t : Task) (e deepest : ℕ) (sums : Option Payoffs) (rows : List ℕ) : Type 0 where
-  pub sound : AreSound t.sheet.now (outcome_at t.sheet.now e) rows
+  pub sound : AreSound (bytes_of t) (outcome_at (bytes_of t) e) rows
   pub left : (d : ℕ) → deepest ≤ d
-      → solved t (d + 1) e ≡ (sums_from (solved t d) e (option_map payoffs_of sums) (given_by (outcome_at t.sheet.now e) rows) >>= weighed e)
+      → solved t (d + 1) e ≡ (sums_from (solved t d) e (option_map payoffs_of sums) (given_by (outcome_at (bytes_of t) e) rows) >>= weighed e)

@@ -9,9 +9,13 @@ use Rattle.turns.specs.declared.Play.{Play}
 use Rattle.turns.specs.Plays.{told}
 use Rattle.solver.specs.declared.task.Task.{Task}
 
+-- the bytes of the sheet
+abbrev pub bytes_of : Task → List ℕ
+bytes_of t = t.links.lookup.sheet.now
+
 -- the answer of the node e with so many depths left
 abbrev pub solved : Task → ℕ → ℕ → Result Solution Refusal
-solved t depth e = solve t.method (game_of t.sheet.now) depth e
+solved t depth e = solve t.method (game_of (bytes_of t)) depth e
 
 abbrev pub actions_in : Result Solution Refusal → List ℕ
 actions_in (Ok s) = s.actions

@@ -2,13 +2,13 @@
 ghost use Rattle.std.specs.Prelude.{◌≡◌, ◌<◌};
 ghost use Rattle.std.specs.Iterator.{YieldsFirst, item_count};
 
+use child_rows::ChildLinks;
 use std::marker::Model;
 
 /// The child rows of a parent that are left.
 #[derive(Drop)]
 pub struct ChildRows<'a> {
-    pub sheet: &'a [u8],
-    pub links: &'a [u32],
+    pub links: ChildLinks<'a>,
     pub parent: u32,
     pub count: usize,
     pub row: usize,
@@ -20,9 +20,9 @@ impl<'a> Model for ChildRows<'a> {
 
     ghost Value = { List ℕ };
 
-    ghost view = { λ c. rows_along c.sheet.now c.links.now c.row };
+    ghost view = { λ c. rows_along c.links.lookup.sheet.now c.links.links.now c.row };
 
-    ghost invariant = { λ c. IsOn c.sheet.now c.links.now c.parent c.count c.row };
+    ghost invariant = { λ c. IsOn c.links.lookup.sheet.now c.links.links.now c.parent c.count c.row };
 }
 
 impl<'a> Iterator for ChildRows<'a> {
@@ -38,7 +38,7 @@ impl<'a> Iterator for ChildRows<'a> {
         if self.count <= row {
             return None;
         }
-        self.row = child_rows::next_child(self.links, row);
+        self.row = self.links.next_child(row);
         Some(row)
     }
 }

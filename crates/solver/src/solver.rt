@@ -6,7 +6,7 @@ ghost use Rattle.game.specs.declared.Kind.TheVariants as Kinds;
 ghost use Rattle.sheet.specs.Found.{NodeAt};
 ghost use Rattle.memo.specs.Kept.{IsUnknown, IsMemo, IsRight};
 ghost use Rattle.turns.specs.Plays.{actions_from};
-ghost use Rattle.solver.specs.Tasks.{solved, told_of, actions_at, Answered, solution_in};
+ghost use Rattle.solver.specs.Tasks.{bytes_of, solved, told_of, actions_at, Answered, solution_in};
 ghost use Rattle.solver.specs.Kinds.{GoesBy};
 ghost use Rattle.solver.specs.Solutions.{labels_of, solution_of};
 
@@ -23,8 +23,8 @@ use turns::{Payoffs, Play, Reply, better};
 pub struct Solver<'a> {
     pub task: &'a Task<'a>,
     pub memo: &'a mut [Option<Kept<Play>>],
-    ghost room: { row_count task.now.sheet.now Nodes ≤ length memo.now },
-    ghost right: { IsMemo (solved task.now) (told_of task.now) (λ i. field task.now.sheet.now Nodes i 0) memo.now },
+    ghost room: { row_count (bytes_of task.now) Nodes ≤ length memo.now },
+    ghost right: { IsMemo (solved task.now) (told_of task.now) (λ i. field (bytes_of task.now) Nodes i 0) memo.now },
 }
 
 impl<'a> Solver<'a> {
@@ -45,7 +45,7 @@ impl<'a> Solver<'a> {
         if let Some(kept) = self.known(row, left) {
             return Ok(*kept);
         }
-        let kind = sheet::node_row(task.sheet, row).kind;
+        let kind = task.kind_in(row);
         let kept = self.solve_kind(entity, row, kind, left - 1)?;
         self.keep(row, kept);
         Ok(kept)
@@ -53,17 +53,17 @@ impl<'a> Solver<'a> {
 
     /// What is kept of the node of a row, where it holds with so much depth left.
     fn known(&self, row: usize, left: usize) -> Option<&Kept<Play>>
-        requires { row < row_count self.now.task.now.sheet.now Nodes }
+        requires { row < row_count (bytes_of self.now.task.now) Nodes }
         ensures unknown { IfNone result (IsUnknown self.now.memo.now row left) }
-        ensures known { IfSome result (λ kept. Answered self.now.task.now left (field self.now.task.now.sheet.now Nodes row 0) kept.now) }
+        ensures known { IfSome result (λ kept. Answered self.now.task.now left (field (bytes_of self.now.task.now) Nodes row 0) kept.now) }
     {
         memo::known(self.memo, row, left)
     }
 
     /// Keeps the answer of the node of a row.
     fn keep(&mut self, row: usize, kept: Kept<Play>)
-        requires within { row < row_count self.old.task.now.sheet.now Nodes }
-        requires right { IsRight (solved self.old.task.now) (told_of self.old.task.now) (field self.old.task.now.sheet.now Nodes row 0) kept }
+        requires within { row < row_count (bytes_of self.old.task.now) Nodes }
+        requires right { IsRight (solved self.old.task.now) (told_of self.old.task.now) (field (bytes_of self.old.task.now) Nodes row 0) kept }
         ensures { self.new.task ≡ self.old.task }
     {
         memo::keep(self.memo, row, kept);
@@ -78,7 +78,7 @@ impl<'a> Solver<'a> {
         kind: Kind,
         left: usize,
     ) -> Result<Kept<Play>, Refusal>
-        requires node { NodeAt self.old.task.now.sheet.now row entity }
+        requires node { NodeAt (bytes_of self.old.task.now) row entity }
         requires unknown { IsUnknown self.old.memo.now row (left + 1) }
         requires kind { GoesBy self.old.task.now entity kind }
         requires low { left < 64 }
@@ -101,7 +101,7 @@ impl<'a> Solver<'a> {
         ensures answer { (left : ℕ) → solution_in self.now.task.now result ≡ solved self.now.task.now (left + 1) entity }
     {
         let task = self.task;
-        let terminal = sheet::find_terminal(task.sheet, task.hints, entity).ok_or(
+        let terminal = sheet::terminal_of(task.links.lookup, entity).ok_or(
             Refusal::MissingTerminalUtility { entity },
         )?;
         let payoffs = task.payoffs(terminal);
@@ -125,7 +125,7 @@ impl<'a> Solver<'a> {
         player: u32,
         left: usize,
     ) -> Result<Kept<Play>, Refusal>
-        requires node { NodeAt self.old.task.now.sheet.now row entity }
+        requires node { NodeAt (bytes_of self.old.task.now) row entity }
         requires kind { GoesBy self.old.task.now entity (Kinds.Decision player) }
         requires low { left < 64 }
         ensures kept { IfOk result (Answered self.old.task.now (left + 1) entity) }
@@ -154,7 +154,7 @@ impl<'a> Solver<'a> {
     /// A chance node is worth the weighted sums of its outcomes; the plain method refuses it.
     #[cycle(solve)]
     fn solve_chance(&mut self, entity: u32, row: usize, left: usize) -> Result<Kept<Play>, Refusal>
-        requires node { NodeAt self.old.task.now.sheet.now row entity }
+        requires node { NodeAt (bytes_of self.old.task.now) row entity }
         requires kind { GoesBy self.old.task.now entity Kinds.Chance }
         requires low { left < 64 }
         ensures kept { IfOk result (Answered self.old.task.now (left + 1) entity) }

@@ -1,16 +1,13 @@
 -- What the code reads by rows: the targets of a section, the children that a loop over the child rows has left, a node's row.
 use Rattle.std.proofs.Common.{◌≡◌, ℕ, ◌+◌, ◌-◌, ◌<◌, ◌≤◌, List, [], arith, refl, sym, inl, inr}
 use Rattle.std.proofs.lemmas.Bool.{cases_lt}
-use Rattle.std.specs.Prelude.{Some}
 use Rattle.std.specs.List.{cons_option}
 use native.Mathlib.Nat.{sub-zero}
 use Rattle.answer.specs.Checks.{◌>>◌, each}
 use Rattle.answer.proofs.CheckLaws.{each-none, each-more, each-stops}
-use Rattle.rows.specs.Rows.{find_row}
 use Rattle.rows.specs.Store.{rows_from}
-use Rattle.rows.proofs.RowLaws.{found_in}
 use Rattle.rows.proofs.StoreLaws.{each_rows}
-use Rattle.layout.specs.Layout.{root_of, width, section_of, row_count, field}
+use Rattle.layout.specs.Layout.{root_of, row_count, field}
 use Rattle.layout.specs.declared.section.Section.TheVariants.{Nodes, Children, Actions, Chances}
 use Rattle.opening.proofs.AcceptedRows.{entities_differ}
 use Rattle.graph_relations.specs.Relations.{child_in, children_of}
@@ -33,7 +30,7 @@ targets_by_row s =
       each_rows (chance_row s) (λ (c : Chance). node_check (game_of s) c.target) (row_count s Chances),
     )
 
-pub ruleset targets = (each-none, each-more, each-stops, targets_by_row, opens_layout)
+pub ruleset targets = (each-none, each-more, each-stops, targets_by_row)
 
 -- ---- children
 module _ (s : List ℕ) (parent : ℕ) where
@@ -53,13 +50,9 @@ module _ (s : List ℕ) (parent : ℕ) where
   unfolding children_left
   children_left_next i l = children_next parent (child_row s) i (row_count s Children) l
 
-pub ruleset children = (children_left_all, children_left_end, children_left_next, opens_layout)
+pub ruleset children = (children_left_all, children_left_end, children_left_next)
 
 -- ---- nodes
--- a row that was found is one of the sheet's
-pub node_row_found : (s : List ℕ) (e row : ℕ) → find_row (width s Nodes) (section_of s Nodes) (row_count s Nodes) e ≡ Some row → row < row_count s Nodes
-node_row_found s e row p = (found_in (width s Nodes) (section_of s Nodes) (row_count s Nodes) e row p).0
-
 -- no two rows name one node
 pub nodes_differ : (s : List ℕ) → Opens s → (i j : ℕ) → i < row_count s Nodes → j < row_count s Nodes → (i ≡ j → ⊥) → field s Nodes i 0 ≡ field s Nodes j 0 → ⊥
 nodes_differ s ok i j l m apart p =
@@ -68,4 +61,4 @@ nodes_differ s ok i j l m apart p =
       | inr above ↦ entities_differ s ok Nodes refl j i (omega arith) l (sym p)
     ]
 
-pub ruleset walk = (children_left_all, children_left_end, children_left_next, node_row_found, few_nodes, opens_layout)
+pub ruleset walk = (children_left_all, children_left_end, children_left_next, few_nodes)

@@ -11,5 +11,5 @@ pub returns : goal.returns
 unfolding action_edge_in
 returns c =
     row_sound (game_of _) (action_of _) (λ (x : ActionEdge). x.target) _ _ _
-    (sym (rw c.sections.ensures at c.child_in.ensures) ∙ c.in-Some.is)
+    (sym (rw c.sections.ensures at c.children_of.ensures) ∙ c.in-Some.is)
     _ c.action_of.ensures c.requires.1

@@ -10,5 +10,5 @@ pub returns : goal.returns
 unfolding chance_outcome_in
 returns c =
     row_sound (game_of _) (chance_of _) (λ (x : Chance). x.target) _ _ _
-    (sym (rw c.sections.ensures at c.child_in.ensures) ∙ c.in-Some.is)
+    (sym (rw c.sections.ensures at c.children_of.ensures) ∙ c.in-Some.is)
     _ c.chance_of.ensures c.requires.1

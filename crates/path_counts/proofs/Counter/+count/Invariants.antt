@@ -19,9 +19,9 @@ decreases-count_edges l = 4 * l.left + 1
 
 abbrev pub invariant-count_edges-loop-edge : goal.invariant-count_edges-loop-edge
 invariant-count_edges-loop-edge l =
-    let g = game_of l.fn.self.sheet.now in
+    let g = game_of l.fn.self.lookup.sheet.now in
     record {
-      same_sheet : l.self.sheet ≡ l.fn.self.sheet;
+      same_sheet : l.self.lookup.sheet ≡ l.fn.self.lookup.sheet;
       low : l.deepest ≤ l.left;
       left : (d : ℕ) → l.deepest ≤ d → counts_by_edges g (counts_at g d) l.entity ≡ counts_from (counts_at g d) l.entity l.total l.edge-iterator;
     }

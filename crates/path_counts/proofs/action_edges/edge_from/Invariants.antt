@@ -6,6 +6,6 @@ use Rattle.path_counts.proofs.action_edges.edge_from.Given as goal
 abbrev pub invariant-loop-row : goal.invariant-loop-row
 invariant-loop-row l =
     record {
-      same : edges_left l.sheet l.source l.count l.from ≡ edges_left l.sheet l.source l.count l.row;
-      sound : AreSound l.sheet l.hints l.source l.count l.row;
+      same : edges_left l.lookup.sheet.now l.source l.count l.from ≡ edges_left l.lookup.sheet.now l.source l.count l.row;
+      sound : AreSound l.lookup.sheet.now l.source l.count l.row;
     }

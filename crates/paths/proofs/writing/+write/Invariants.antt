@@ -15,7 +15,7 @@ decreases-write_edges l = 2 * l.left
 
 abbrev pub invariant-write_edges-loop-edge : goal.invariant-write_edges-loop-edge
 invariant-write_edges-loop-edge l =
-    let g = game_of l.sheet in
+    let g = game_of l.lookup.sheet.now in
     let whole = words_from g l.left l.entity l.fn.labels.items in
     let rest = words_along g (l.left - 1) l.fn.labels.items l.edge-iterator in
     record {

@@ -10,5 +10,5 @@ abbrev pub invariant-loop-j : goal.invariant-loop-j
 invariant-loop-j l =
     record {
       place : l.end + l.first ≡ l.at + l.j;
-      left : written l.fn.out l.at (map to_bits (rows_from (payoff_row l.sheet) l.first l.count)) ≡ written l.out l.end (map to_bits (rows_from (payoff_row l.sheet) l.j (l.first + l.count - l.j)));
+      left : written l.fn.out l.at (map to_bits (rows_from (payoff_row l.sheet.bytes.now) l.first l.count)) ≡ written l.out l.end (map to_bits (rows_from (payoff_row l.sheet.bytes.now) l.j (l.first + l.count - l.j)));
     }

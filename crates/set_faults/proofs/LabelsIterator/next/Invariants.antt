@@ -11,8 +11,8 @@ abbrev pub invariant-loop-row : goal.invariant-loop-row
 invariant-loop-row l =
     let now = l.self-inside in
     record {
-      left : l.fn.self ≡ kept_from (label_of (game_of now.rows.sheet.now) now.node) (child_row now.rows.sheet.now) now.left.end now.left.start;
-      within : now.left.end ≤ row_count now.rows.sheet.now Children;
+      left : l.fn.self ≡ kept_from (label_of (game_of now.rows.lookup.sheet.now) now.node) (child_row now.rows.lookup.sheet.now) now.left.end now.left.start;
+      within : now.left.end ≤ row_count now.rows.lookup.sheet.now Children;
     }
 
 abbrev pub decreases-loop-row : goal.decreases-loop-row

@@ -11,8 +11,8 @@ abbrev pub invariant-loop-row : goal.invariant-loop-row
 invariant-loop-row l =
     let now = l.self-inside in
     record {
-      left : l.fn.self ≡ kept_from (member_in now.id) (set_row now.rows.sheet.now) now.left.end now.left.start;
-      within : now.left.end ≤ row_count now.rows.sheet.now Sets;
+      left : l.fn.self ≡ kept_from (member_in now.id) (set_row now.rows.lookup.sheet.now) now.left.end now.left.start;
+      within : now.left.end ≤ row_count now.rows.lookup.sheet.now Sets;
     }
 
 abbrev pub decreases-loop-row : goal.decreases-loop-row

@@ -7,5 +7,5 @@ use Rattle.set_faults.proofs.SetRows.first_row.Given as goal
 
 abbrev pub invariant-loop-j : goal.invariant-loop-j
 invariant-loop-j l =
-    let s = l.self.sheet.now in
+    let s = l.self.lookup.sheet.now in
     first_row (game_of s) (set_row s l.i).id ≡ first_from s (set_row s l.i).id l.j

@@ -7,7 +7,7 @@ use Rattle.set_faults.proofs.SetRows.same_labels.Given as goal
 
 abbrev pub invariant-loop-label : goal.invariant-loop-label
 invariant-loop-label l =
-    let s = l.self.sheet.now in
+    let s = l.self.lookup.sheet.now in
     let g = game_of s in
     record {
       left : same_labels g (labels_of g l.a) (labels_of g l.b) ≡ same_labels g l.label-iterator l.others;

@@ -14,5 +14,5 @@ returns-clause-steps c = sym c.self.view_is ∙ rows_go _ _ _ _ _ c.self.invaria
 pub returns-clause-goes : goal.returns-clause-goes
 returns-clause-goes c =
     let s = c.self.inside in
-    let e : c.args.self.now ≡ s.row ∷ rows_along s.sheet.now s.links.now c.next_child-self-inside.result = sym c.self.view_is ∙ rows_go _ _ _ _ _ c.self.invariant _ c.next_child-self-inside.ensures c.if-self-row.false in
+    let e : c.args.self.now ≡ s.row ∷ rows_along s.links.lookup.sheet.now s.links.links.now c.next_child-self-inside.result = sym c.self.view_is ∙ rows_go _ _ _ _ _ c.self.invariant _ c.next_child-self-inside.ensures c.if-self-row.false in
     grind (arith, common_steps, e)

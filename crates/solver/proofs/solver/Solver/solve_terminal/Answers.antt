@@ -3,7 +3,7 @@ use Rattle.std.proofs.Common.{◌≡◌, ◌+◌, ℕ, sym, ◌∙◌, ap, arith
 use Rattle.std.proofs.lemmas.Result.{err_from_is_err_and}
 use Rattle.std.specs.Result.{result_ok}
 use Rattle.sheet.specs.Found.{terminal_in}
-use Rattle.solver.specs.Tasks.{solved, told_of}
+use Rattle.solver.specs.Tasks.{bytes_of, solved, told_of}
 use Rattle.solver.proofs.LoopLaws.{same_refusal}
 use Rattle.solver.proofs.KindLaws.{answers, terminal_missing, terminal_found}
 use Rattle.solver.proofs.solver.Solver.solve_terminal.Goals as goal
@@ -14,14 +14,14 @@ returns-in_err-terminal-clause-answer c =
     let p = err_from_is_err_and c.from_residual.result c.from_residual.ensures.1 in
     let none = c.ok_or.ensures.ok_part ∙ ap result_ok c.in_err-terminal.was in
     let missing = rw none at (sym c.ok_or.ensures.value ∙ c.in_err-terminal.was) in
-    λ left. rw (p.1, p.2) (sym (terminal_missing _ _ c.requires (rw none at (sym c.find_terminal.ensures.0)) left ∙ same_refusal _ _ missing))
+    λ left. rw (p.1, p.2) (sym (terminal_missing _ _ c.requires (rw none at (sym c.terminal_of.ensures.terminal)) left ∙ same_refusal _ _ missing))
 
 worth : (c : goal.After-payoffs-payoffs) (left : ℕ)
     → solved c.args.self.now.task.now (left + 1) c.args.entity ≡ Ok (told_of c.args.self.now.task.now (record { terminal = Some c.args.entity; first = None; payoffs = c.payoffs-payoffs.result }))
 worth c left =
     let t = c.args.self.now.task.now in
     let some = c.ok_or.ensures.ok_part ∙ ap result_ok c.in_ok-terminal.was in
-    rw c.payoffs-payoffs.ensures (terminal_found t c.args.entity c.requires _ (sym c.find_terminal.ensures.0 ∙ ap (option_map (terminal_in t.sheet.now)) some) left)
+    rw c.payoffs-payoffs.ensures (terminal_found t c.args.entity c.requires _ (sym c.terminal_of.ensures.terminal ∙ ap (option_map (terminal_in (bytes_of t))) some) left)
 
 pub returns-clause-kept : goal.returns-clause-kept
 returns-clause-kept c = (answers _ _ 0 0 _ (omega arith) (λ d h. worth c d)).is_right
