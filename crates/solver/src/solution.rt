@@ -10,8 +10,8 @@ use turns::Payoffs;
 pub struct Labels {
     pub count: usize,
     pub numbers: [u32; 64],
-    ghost few: { count ≤ 64 },
-    ghost unused: { drop count numbers ≡ replicate (64 - count) 0 },
+    pub ghost few: { count ≤ 64 },
+    pub ghost unused: { drop count numbers ≡ replicate (64 - count) 0 },
 }
 
 /// A solution: the terminal where its play ends, or none where it meets a chance node; the labels of its actions; the payoffs, with 0 after them.
@@ -20,5 +20,5 @@ pub struct Solution {
     pub terminal: Option<u32>,
     pub labels: Labels,
     pub payoffs: Payoffs,
-    ghost unused: { map meaning (drop payoffs.count payoffs.values) ≡ replicate (8 - payoffs.count) (finite false 0) },
+    pub ghost unused: { map meaning (drop payoffs.count payoffs.values) ≡ replicate (8 - payoffs.count) (finite false 0) },
 }

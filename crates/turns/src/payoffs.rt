@@ -14,7 +14,7 @@ use number::Weighted;
 pub struct Payoffs {
     pub count: usize,
     pub values: [f64; 8],
-    ghost few: { count ≤ 8 },
+    pub ghost few: { count ≤ 8 },
 }
 
 impl Payoffs {

@@ -1,8 +1,8 @@
--- `check_actions_from` looks at the child rows of the source in turn, each as its entity.
+-- `linked_action_edges_from` looks at the child rows of the source in turn, each as its entity.
 use Rattle.std.proofs.Common.{sym, ◌∙◌}
 use Rattle.std.proofs.lemmas.Result.{err_from_is_err_and}
 use Rattle.edges.proofs.LinkedEdges.{actions_stop, actions_go, actions_end}
-use Rattle.edges.proofs.check_actions_from.Goals as goal
+use Rattle.edges.proofs.linked_action_edges_from.Goals as goal
 
 pub returns-in_err-checked_action : goal.returns-in_err-checked_action
 returns-in_err-checked_action c =

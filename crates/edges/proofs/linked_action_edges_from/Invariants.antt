@@ -1,7 +1,7 @@
--- `check_actions_from` answers the first fault among the action edges. The loop's invariant: that fault is the first from row i on, a child row of the source or the end.
+-- `linked_action_edges_from` answers the first fault among the action edges. The loop's invariant: that fault is the first from row i on, a child row of the source or the end.
 use Rattle.std.proofs.Common.{◌-◌}
 use Rattle.edges.proofs.LinkedEdges.{ActionsFrom}
-use Rattle.edges.proofs.check_actions_from.Given as goal
+use Rattle.edges.proofs.linked_action_edges_from.Given as goal
 
 abbrev pub invariant-loop-row : goal.invariant-loop-row
 invariant-loop-row l = ActionsFrom l.lookup.sheet.now l.links l.source l.n l.row

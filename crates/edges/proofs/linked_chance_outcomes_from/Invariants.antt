@@ -1,7 +1,7 @@
--- `check_chances_from` answers the first fault among the chance outcomes. The loop's invariant: that fault is the first from row i on, a child row of the source or the end.
+-- `linked_chance_outcomes_from` answers the first fault among the chance outcomes. The loop's invariant: that fault is the first from row i on, a child row of the source or the end.
 use Rattle.std.proofs.Common.{◌-◌}
 use Rattle.edges.proofs.LinkedEdges.{ChancesFrom}
-use Rattle.edges.proofs.check_chances_from.Given as goal
+use Rattle.edges.proofs.linked_chance_outcomes_from.Given as goal
 
 abbrev pub invariant-loop-row : goal.invariant-loop-row
 invariant-loop-row l = ChancesFrom l.lookup.sheet.now l.links l.source l.n l.row

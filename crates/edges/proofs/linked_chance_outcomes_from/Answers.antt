@@ -1,9 +1,9 @@
--- `check_chances_from` looks at the child rows of the source in turn, each as its entity.
+-- `linked_chance_outcomes_from` looks at the child rows of the source in turn, each as its entity.
 use Rattle.std.proofs.Common.{sym, ap, ◌∙◌}
 use Rattle.std.proofs.lemmas.Result.{err_from_is_err_and}
 use Rattle.edges.specs.Steps.{chance_edge}
 use Rattle.edges.proofs.LinkedEdges.{chances_stop, chances_go, chances_end}
-use Rattle.edges.proofs.check_chances_from.Goals as goal
+use Rattle.edges.proofs.linked_chance_outcomes_from.Goals as goal
 
 pub returns-in_err-checked_chance : goal.returns-in_err-checked_chance
 returns-in_err-checked_chance c =
