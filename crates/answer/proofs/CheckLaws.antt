@@ -89,10 +89,6 @@ each_stays f m (suc n) e l p =
 
 -- ---- by element
 module _ {A E : Type 0} (check : A → Result Unit E) where
-  pub each_in-none : each_in check [] ≡ Ok tt
-  unfolding each_in
-  each_in-none = refl
-
   -- the elements from place i on, as a loop has them left
   pub each_in-end : (xs : List A) (i : ℕ) → length xs ≤ i → each_in check (drop i xs) ≡ Ok tt
   unfolding each_in

@@ -44,18 +44,16 @@ module _ (method : Method) (s : List ℕ) (start d : ℕ) (least : 1 ≤ d) (mos
 
   pub no_better : (n : ℕ) → Visited s start d n → NoBetter method s start d n
   unfolding evaluate
-  no_better n (left, v) = go (visited_answer left n v)
-    where
-      go : (y : Solution) × (solution method s n d ≡ Ok y) × (solve method (game_of s) left n ≡ Ok y) → NoBetter method s start d n
-      go (y, call, visit) =
-          record {
-            answer = y;
-            answered = call;
-            no_plan_better = λ player u hu plan picks.
-                call_done method s d least most start x solved λ o e.
-                let (w, value_left, below) = bounded method (game_of s) (accepted s o) d player plan left n y visit (visits_le v) (λ k m xs z. picks k m xs (visits_on v z)) u hu in
-                (w, value_limits (game_of s) (moves method (game_of s) d player plan) player left d (visits_le v) n (done_not_spent _ w value_left) ∙ value_left, below);
-          }
+  no_better n (left, v) =
+      let (y, call, visit) = visited_answer left n v in
+      record {
+        answer = y;
+        answered = call;
+        no_plan_better = λ player u hu plan picks.
+            call_done method s d least most start x solved λ o e.
+            let (w, value_left, below) = bounded method (game_of s) (accepted s o) d player plan left n y visit (visits_le v) (λ k m xs z. picks k m xs (visits_on v z)) u hu in
+            (w, value_limits (game_of s) (moves method (game_of s) d player plan) player left d (visits_le v) n (done_not_spent _ w value_left) ∙ value_left, below);
+      }
 
 -- ---- the solver's own choices
 module _ (method : Method) (s : List ℕ) (d : ℕ) (least : 1 ≤ d) (most : d ≤ 64) where
@@ -79,7 +77,7 @@ module _ (method : Method) (s : List ℕ) (d : ℕ) (least : 1 ≤ d) (most : d 
 pub depth_spent_lem : (method : Method) (s : List ℕ) (start d : ℕ) → 1 ≤ d → d ≤ 64 → Opens s
     → (n : ℕ) → solution method s start d ≡ Err (DepthSpent n) → Visits (game_of s) d start 0 n
 depth_spent_lem method s start d least most o n e =
-    spent_visited method (game_of s) d start (DepthSpent n) (sym (call_opened method s d least most o start) ∙ e) n refl
+    spent_visited n method (game_of s) d start (sym (call_opened method s d least most o start) ∙ e)
 
 -- ---- the two promises
 pub promises : (method : Method) (s : List ℕ) (start : ℕ) → Promises method s start

@@ -1,4 +1,4 @@
-// The sections of a sheet.
+//! The sections of a sheet.
 
 ghost use Rattle.std.specs.Prelude.{◌≡◌, ◌<◌, ◌≤◌};
 
@@ -20,6 +20,7 @@ pub enum Section {
 impl Section {
     ghost use Rattle.layout.specs.Section.{number, row_limit, has_entity};
 
+    /// All of them, in their order.
     pub const ALL: [Section; 10] = [
         Section::Nodes,
         Section::Children,

@@ -1,4 +1,4 @@
-// The sections of a sheet, as parts of its bytes.
+//! The sections of a sheet, as parts of its bytes.
 
 ghost use Rattle.std.specs.Prelude.{◌≡◌, ◌+◌, ◌≤◌, ◌<◌, Ok};
 ghost use Rattle.layout.specs.Layout.{layout_check};
@@ -52,6 +52,7 @@ impl<'a> Sections<'a> {
         rows::field(self.bytes_of(section), width_of(self.bytes, section), i, f)
     }
 
+    // A reader for each width, as rows has.
     /// The u64 at byte f of row i of a section.
     #[tactic(auto, unfolding(crate::specs::Layout::row_count, crate::specs::Layout::field64))]
     pub fn u64_field(self, section: Section, i: usize, f: usize) -> u64

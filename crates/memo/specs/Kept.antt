@@ -1,10 +1,16 @@
 -- What is kept of nodes: each answer with its height, the depth from which on it holds. Definitions only.
-use Rattle.std.specs.Prelude.{ℕ, ◌≤◌, ◌<◌, ◌≡◌, List, Option, Some, Result, Ok, Err, slice_get}
+use Rattle.std.specs.Prelude.{ℕ, ◌≤◌, ◌<◌, ◌≡◌, List, Option, Some, Result, Ok, slice_get}
 use Rattle.memo.specs.declared.Kept.{Kept}
 
 -- no answer that holds with so much depth left is kept in that row
 pub record IsUnknown {A : Type 0} (rows : List (Option (Kept A))) (row left : ℕ) : Type 0 where
   pub unknown : (kept : Kept A) → slice_get rows row ≡ Some (Some kept) → left < kept.height
+
+-- a row keeps an answer of which this holds
+pub record IsKept {A : Type 0} (rows : List (Option (Kept A))) (holds : Kept A → Type 0) (row : ℕ) : Type 0 where
+  pub kept : Kept A
+  pub here : slice_get rows row ≡ Some (Some kept)
+  pub is : holds kept
 
 -- an answer by depth and node, and what the code's answers stand for
 module _ {S A E : Type 0} (answer : ℕ → ℕ → Result S E) (told : A → S) where
@@ -20,8 +26,3 @@ module _ {S A E : Type 0} (answer : ℕ → ℕ → Result S E) (told : A → S)
   -- each kept answer is that of its row's node
   pub record IsMemo (node : ℕ → ℕ) (rows : List (Option (Kept A))) : Type 0 where
     pub kept_right : (i : ℕ) (kept : Kept A) → slice_get rows i ≡ Some (Some kept) → IsRight (node i) kept
-
-  -- the answer without its height
-  abbrev pub answer_in : Result (Kept A) E → Result S E
-  answer_in (Ok kept) = Ok (told kept.answer)
-  answer_in (Err r) = Err r

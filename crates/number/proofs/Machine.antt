@@ -1,6 +1,6 @@
 -- The machine's f64 is what specs/Number.antt says: its numbers, bit patterns, +, *, < and <= in the kit's model of IEEE 754, for every value, infinities and NaN too.
 use mathlib.Core.Path.{◌≡◌, refl, sym, ap, ap₂, ◌∙◌, subst}
-use mathlib.Core.Bool.{Bool, not, ◌&&◌, ◌||◌, beq, cond}
+use mathlib.Core.Bool.{Bool, not, ◌&&◌, ◌||◌}
 use Prim.Native.Nat.{ℕ, zero, suc, ◌+◌, ◌-◌, ◌*◌, ◌/◌, ◌%◌, ◌^◌, ◌≤◌, ◌<◌}
 use native.Mathlib.Nat.{zero-lt-suc, zero-mul, mul-one, mul_assoc, mul_comm, mul_right_comm, mul-sub, mul-mul-mul_comm, mul-pos, mul-div_cancel, mul-le-mul_right, mul-lt-mul_of_pos_right, le_of_mul-le-mul_right, lt_of_mul-lt-mul_right}
 use native.Mathlib.Omega.{arith}
@@ -12,14 +12,14 @@ use lib.Ieee as K
 use lib.Ieee.{Float, inf, fin, binary64, up, down, odd, units, round, fits, sum, add, mul, below, level, lt, le, is_nan, nan_bits, of_fields, of_bits}
 use lib.Ieee.Fits.{up_pos, down_pos, round_is}
 use lib.Ieee.Exact.{HasValue, odd_sign}
-use lib.Ieee.Bits.{nan_bits_is, of_bits-to_bits, to_bits-of_bits}
+use lib.Ieee.Bits.{nan_bits_is, of_bits-to_bits}
 use lib.Ieee.Order.{drop, kept}
-use Rattle.number.specs.Number.{finite, infinite, nan, round_to_nearest_even, overflow, signed_sum, plus, times, product_sign, positive_part, negative_part, less, at_most, is_finite, from_fields, from_bits, to_bits}
+use Rattle.number.specs.Number.{finite, round_to_nearest_even, overflow, signed_sum, plus, times, product_sign, positive_part, negative_part, less, at_most, is_finite, from_fields, from_bits, to_bits}
 use Rattle.number.specs.Meaning.{meaning}
 use Rattle.number.proofs.Categories.{is_number}
 use Rattle.number.proofs.Ulp.{ulp_is}
 use Rattle.number.proofs.Rounding.{nearest_integer_is, round_same}
-use Rattle.number.proofs.Order.{finite_number, at_most_not_less}
+use Rattle.number.proofs.Order.{finite_number}
 
 -- ---- numbers: each finite f64 is a whole number of parts of 2 ^ -1074, so the division in `meaning` leaves nothing
 -- an f64 whose size is a parts means a parts
@@ -39,20 +39,14 @@ abbrev Whole : Float → Type 0
 Whole (fin s m e) = parts m e * down e ≡ m * up e * 2 ^ 1074
 Whole x = Unit
 
-whole_odd : (s : Bool) (q k : ℕ) → Whole (odd 53 s q k 1074)
-whole_odd s q k = go (odd 53 s q k 1074) (odd_sign 53 s q k 1074)
-  where
-    go : (x : Float) → HasValue x s (q * 2 ^ k) (2 ^ 1074) → Whole x
-    go (fin t m e) h = rw (h.1, mul-div_cancel (q * 2 ^ k) (down_pos e))
-    go x h = absurd h
+whole_of_value : (x : Float) (s : Bool) (a : ℕ) → HasValue x s a (2 ^ 1074) → Whole x
+whole_of_value (fin t m e) s a h = rw (h.1, mul-div_cancel a (down_pos e))
+whole_of_value x s a h = absurd h
 
 whole_fields : (s : Bool) (e t : ℕ) → Whole (of_fields binary64 s e t)
 unfolding of_fields
-whole_fields s zero t = whole_odd s t 0
-whole_fields s (suc e) t = go (eqb (suc e) 2047) (eqb t 0)
-  where
-    go : (a b : Bool) → Whole (cond a (cond b (inf s) Float.nan) (odd 53 s (2 ^ 52 + t) e 1074))
-    go a b = grind (arith, whole_odd s (2 ^ 52 + t) e)
+whole_fields s zero t = whole_of_value _ s _ (odd_sign 53 s t 0 1074)
+whole_fields s (suc e) t = let h = whole_of_value _ s _ (odd_sign 53 s (2 ^ 52 + t) e 1074) in grind (arith, h)
 
 whole_bits : (n : ℕ) → Whole (of_bits binary64 n)
 unfolding of_bits
@@ -74,10 +68,7 @@ module _ (s : Bool) (m : ℕ) (e : ℤ) (h : T (fits binary64 (fin s m e))) (t :
 meaning_fields : (s : Bool) (e t : ℕ) → meaning (of_fields binary64 s e t) ≡ from_fields s e t
 unfolding of_fields from_fields
 meaning_fields s zero t = odd_is 53 s t 0 ∙ ap (finite s) (mul-one t)
-meaning_fields s (suc e) t = go (eqb (suc e) 2047) (eqb t 0)
-  where
-    go : (a b : Bool) → meaning (cond a (cond b (inf s) Float.nan) (odd 53 s (2 ^ 52 + t) e 1074)) ≡ cond a (cond b (infinite s) nan) (finite s ((2 ^ 52 + t) * 2 ^ e))
-    go a b = grind (arith, odd_is 53 s (2 ^ 52 + t) e)
+meaning_fields s (suc e) t = grind (arith, odd_is 53 s (2 ^ 52 + t) e)
 
 -- the machine's from_bits is `from_bits`, for every pattern, those of infinities and NaN too
 pub meaning_of_bits : (n : ℕ) → meaning (of_bits binary64 n) ≡ from_bits n
@@ -91,6 +82,10 @@ meaning_to_bits Float.nan = refl
 meaning_to_bits (inf s) = refl
 meaning_to_bits (fin s m e) = rw (ulp_is (parts m e))
 
+-- a value is that of its number's bit pattern
+pub of_meaning : (x : Float) → T (fits binary64 x) → of_bits binary64 (to_bits (meaning x)) ≡ x
+of_meaning x h = rw (← meaning_to_bits x) (of_bits-to_bits binary64 x h)
+
 -- two values of f64 that are one number are one value
 pub meaning_injective : (x y : Float) → T (fits binary64 x) → T (fits binary64 y) → meaning x ≡ meaning y → x ≡ y
 meaning_injective x y h k e =
@@ -98,20 +93,10 @@ meaning_injective x y h k e =
     ∙ ap (of_bits binary64) (meaning_to_bits x ∙ ap to_bits e ∙ sym (meaning_to_bits y))
     ∙ of_bits-to_bits binary64 y k
 
--- what is written is read back
-pub from_bits_to_bits : (x : Float) → T (fits binary64 x) → from_bits (to_bits (meaning x)) ≡ meaning x
-from_bits_to_bits x h = rw (← meaning_to_bits x, ← meaning_of_bits (K.to_bits binary64 x), of_bits-to_bits binary64 x h)
-
 -- a number is an f64 that is no NaN
 pub meaning_nan : (x : Float) → not (is_nan x) ≡ is_number (meaning x)
 unfolding is_nan
 meaning_nan x = grind arith
-
--- what is read is written back, but for a NaN
-pub to_bits_from_bits : (n : ℕ) → n < 2 ^ 64 → T (is_number (from_bits n)) → to_bits (from_bits n) ≡ n
-to_bits_from_bits n h k =
-    rw (← meaning_of_bits n, ← meaning_to_bits (of_bits binary64 n))
-    (to_bits-of_bits binary64 n h (rw (meaning_nan (of_bits binary64 n), meaning_of_bits n) k))
 
 -- ---- finite numbers: what `f64::is_finite` tells, and what `f64::to_bits` and `f64::from_bits` ask, no NaN
 pub finite_float : (x : Float) → is_finite (meaning x) ≡ float_is_finite x
@@ -127,10 +112,7 @@ no_nan_bits n h = rw (nan_bits_is binary64 n) (no_nan (of_bits binary64 n) (rw (
 -- ---- rounding: the machine rounds num / den, which is num * 2 ^ 1074 / den parts, as `round_to_nearest_even` does
 meaning_units : (s : Bool) (q k : ℕ) → meaning (units binary64 s q k) ≡ overflow s (q * 2 ^ k)
 unfolding units overflow
-meaning_units s q k = go (ltb (q * 2 ^ k) (2 ^ 2098))
-  where
-    go : (b : Bool) → meaning (cond b (odd 54 s q k 1074) (inf s)) ≡ cond b (finite s (q * 2 ^ k)) (infinite s)
-    go b = grind (arith, odd_is 54 s q k)
+meaning_units s q k = grind (arith, odd_is 54 s q k)
 
 meaning_round : (s : Bool) (num den : ℕ) → meaning (round binary64 s num den) ≡ overflow s (round_to_nearest_even (num * 2 ^ 1074) den)
 unfolding round_to_nearest_even
@@ -154,11 +136,20 @@ module _ (a b p q l c : ℕ) (L : 0 < l) (C : 0 < c) (e : a * l ≡ p * c) (f : 
   ltb_parts : ltb a b ≡ ltb p q
   ltb_parts = grind (arith, lt_parts, le_parts)
 
+-- where there is no NaN, <= is not >
+signed_le : (s : Bool) (a : ℕ) (t : Bool) (b : ℕ) → (below s a t b || level s a t b) ≡ not (below t b s a)
+signed_le s a t b = grind arith
+
+-- the order of ±a / c and ±b / c is that of ±p and ±q
 module _ (a b p q l c : ℕ) (L : 0 < l) (C : 0 < c) (e : a * l ≡ p * c) (f : b * l ≡ q * c) where
-  below_parts : (s t : Bool) → below s a t b ≡ ltb (positive_part s p + negative_part t q) (positive_part t q + negative_part s p)
-  below_parts s t =
+  below_is : (s t : Bool) → below s a t b ≡ ltb (positive_part s p + negative_part t q) (positive_part t q + negative_part s p)
+  below_is s t =
       grind
       (arith, ltb_parts a b p q l c L C e f, ltb_parts b a q p l c L C f e, ltb_parts 0 (a + b) 0 (p + q) l c L C (zero-mul l ∙ sym (zero-mul c)) (omega arith))
+
+module _ (a b p q l c : ℕ) (L : 0 < l) (C : 0 < c) (e : a * l ≡ p * c) (f : b * l ≡ q * c) where
+  at_most_is : (s t : Bool) → (below s a t b || level s a t b) ≡ leb (positive_part s p + negative_part t q) (positive_part t q + negative_part s p)
+  at_most_is s t = rw (signed_le s a t b, below_is b a q p l c L C f e t s) (grind arith)
 
 -- ---- the sum
 module _ (a b p q l c : ℕ) (e : a * l ≡ p * c) (f : b * l ≡ q * c) where
@@ -168,22 +159,15 @@ module _ (a b p q l c : ℕ) (e : a * l ≡ p * c) (f : b * l ≡ q * c) where
   sub_parts : (a - b) * l * 1 ≡ (p - q) * c
   sub_parts = grind (arith, mul-sub l a b, mul-sub c p q, mul_comm)
 
-meaning_cond : (b : Bool) (x y : Float) → meaning (cond b x y) ≡ cond b (meaning x) (meaning y)
-meaning_cond b x y = grind arith
-
 sum_is : (s : Bool) (a : ℕ) (t : Bool) (b c p q : ℕ) → 0 < c → a * 2 ^ 1074 ≡ p * c → b * 2 ^ 1074 ≡ q * c → meaning (sum binary64 s a t b c) ≡ signed_sum s p t q
 unfolding sum
 sum_is s a t b c p q C e f =
     let L = pow_pos 1074 in
     let one = zero-lt-suc 0 in
-    rw (← ltb_parts a b p q (2 ^ 1074) c L C e f, ← ltb_parts b a q p (2 ^ 1074) c L C f e)
-    (meaning_cond (beq s t) (round binary64 s (a + b) c) (cond (ltb a b) (round binary64 t (b - a) c) (round binary64 (s && ltb b a) (a - b) c))
-    ∙ ap₂ (cond (beq s t))
-    (round_at s (a + b) c (p + q) 1 C one (sum_parts a b p q (2 ^ 1074) c e f))
-    (meaning_cond (ltb a b) (round binary64 t (b - a) c) (round binary64 (s && ltb b a) (a - b) c)
-    ∙ ap₂ (cond (ltb a b))
-    (round_at t (b - a) c (q - p) 1 C one (sub_parts b a q p (2 ^ 1074) c f e))
-    (round_at (s && ltb b a) (a - b) c (p - q) 1 C one (sub_parts a b p q (2 ^ 1074) c e f))))
+    let both = round_at s (a + b) c (p + q) 1 C one (sum_parts a b p q (2 ^ 1074) c e f) in
+    let more = round_at t (b - a) c (q - p) 1 C one (sub_parts b a q p (2 ^ 1074) c f e) in
+    let rest = round_at (s && ltb b a) (a - b) c (p - q) 1 C one (sub_parts a b p q (2 ^ 1074) c e f) in
+    rw (← ltb_parts a b p q (2 ^ 1074) c L C e f, ← ltb_parts b a q p (2 ^ 1074) c L C f e) (grind (arith, both, more, rest))
 
 -- the machine's + is `plus`
 pub meaning_add : (x y : Float) → T (fits binary64 x) → T (fits binary64 y) → meaning (add binary64 x y) ≡ plus (meaning x) (meaning y)
@@ -199,15 +183,14 @@ product_parts : (x y l d c p q : ℕ) → p * d ≡ x * l → q * c ≡ y * l �
 product_parts x y l d c p q e f = mul_assoc (x * y) l l ∙ mul-mul-mul_comm x y l l ∙ ap₂ ◌*◌ (sym e) (sym f) ∙ mul-mul-mul_comm p d q c
 
 -- only zero is no parts
-same_zero : (m p : ℕ) → ltb 0 m ≡ ltb 0 p → eqb m 0 ≡ eqb p 0
-same_zero m p e = grind arith
-
 zero_parts : (s : Bool) (m : ℕ) (e : ℤ) → T (fits binary64 (fin s m e)) → eqb m 0 ≡ eqb (parts m e) 0
 zero_parts s m e h =
-    same_zero m (parts m e)
-    (ltb_parts 0 m 0 (parts m e) (up e * 2 ^ 1074) (down e) (mul-pos (up_pos e) (pow_pos 1074)) (down_pos e)
+    let some =
+    ltb_parts 0 m 0 (parts m e) (up e * 2 ^ 1074) (down e) (mul-pos (up_pos e) (pow_pos 1074)) (down_pos e)
     (zero-mul (up e * 2 ^ 1074) ∙ sym (zero-mul (down e)))
-    (sym (mul_assoc m (up e) (2 ^ 1074)) ∙ sym (whole_parts s m e h)))
+    (sym (mul_assoc m (up e) (2 ^ 1074)) ∙ sym (whole_parts s m e h))
+    in
+    grind (arith, some)
 
 -- the machine's * is `times`
 pub meaning_mul : (x y : Float) → T (fits binary64 x) → T (fits binary64 y) → meaning (mul binary64 x y) ≡ times (meaning x) (meaning y)
@@ -223,24 +206,17 @@ meaning_mul x y h k = grind arith
 pub meaning_lt : (x y : Float) → T (fits binary64 x) → T (fits binary64 y) → lt x y ≡ less (meaning x) (meaning y)
 unfolding lt less
 meaning_lt (fin s m e) (fin t n d) h k =
-    below_parts (m * up e * down d) (n * up d * down e) (parts m e) (parts n d) (2 ^ 1074) (down e * down d) (pow_pos 1074) (mul-pos (down_pos e) (down_pos d))
+    below_is (m * up e * down d) (n * up d * down e) (parts m e) (parts n d) (2 ^ 1074) (down e * down d) (pow_pos 1074) (mul-pos (down_pos e) (down_pos d))
     (common_left s m e h t n d k)
     (common_right s m e h t n d k)
     s t
 meaning_lt x y h k = grind arith
 
--- between values that are no NaN, <= is not >
-signed_le : (s : Bool) (a : ℕ) (t : Bool) (b : ℕ) → (below s a t b || level s a t b) ≡ not (below t b s a)
-signed_le s a t b = grind arith
-
-le_not_lt : (x y : Float) → T (is_number (meaning x)) → T (is_number (meaning y)) → le x y ≡ not (lt y x)
-unfolding le lt
-le_not_lt (fin s m e) (fin t n d) h k = signed_le s (m * up e * down d) t (n * up d * down e)
-le_not_lt x y h k = grind arith
-
-le_numbers : (x y : Float) → T (fits binary64 x) → T (fits binary64 y) → T (is_number (meaning x)) → T (is_number (meaning y)) → le x y ≡ at_most (meaning x) (meaning y)
-le_numbers x y h k n m = le_not_lt x y n m ∙ ap not (meaning_lt y x k h) ∙ sym (at_most_not_less (meaning x) (meaning y) n m)
-
 pub meaning_le : (x y : Float) → T (fits binary64 x) → T (fits binary64 y) → le x y ≡ at_most (meaning x) (meaning y)
 unfolding le at_most
-meaning_le x y h k = grind (arith, le_numbers x y h k)
+meaning_le (fin s m e) (fin t n d) h k =
+    at_most_is (m * up e * down d) (n * up d * down e) (parts m e) (parts n d) (2 ^ 1074) (down e * down d) (pow_pos 1074) (mul-pos (down_pos e) (down_pos d))
+    (common_left s m e h t n d k)
+    (common_right s m e h t n d k)
+    s t
+meaning_le x y h k = grind arith

@@ -1,4 +1,4 @@
--- The checks of one row of each section, but for a repeated entity: in each the order of the tests is that of the Rust. Definitions only.
+-- The checks of one row of each section, but for a repeated entity: in each the order of the tests is that of docs/REFUSALS.md. Definitions only.
 use Rattle.std.specs.Prelude.{ℕ, ◌+◌, ◌-◌, List, not, cond, ◌&&◌, ◌||◌, get_or, eqb, ◌==◌, nat_le, nat_lt, Result, Ok}
 use Rattle.number.specs.Number.{is_finite, is_probability, from_bits}
 use Rattle.answer.specs.declared.Refusal.{Refusal}
@@ -20,7 +20,7 @@ node_check s i = do
   ensure (field s Nodes i 4 == 0 || field s Nodes i 8 == 0) (Row (number Nodes) i)
   ensure (not (field s Nodes i 8 == no_player)) (InvalidPlayer (field s Nodes i 8))
 
--- actions and chances begin with entity and label number: 5 where there is no such label, 7 where it has length 0
+-- actions and chances begin with entity and label number: `Row` where there is no such label, `EmptyActionLabel` where it has length 0
 unfoldable pub label_check : List ℕ → Section → ℕ → Result Unit Refusal
 label_check s k i = do
   ensure (nat_lt (field s k i 4) (row_count s Labels)) (Row (number k) i)

@@ -1,4 +1,4 @@
--- The first refusal of a sheet, refusals 1 to 10, in the order in which they are told. Definitions only.
+-- The first refusal of a sheet, from `SheetLength` to `NonFiniteUtility`, in the order in which they are told. Definitions only.
 use Rattle.std.specs.Prelude.{ℕ, zero, suc, ◌+◌, ◌≤◌, ◌<◌, ◌≡◌, List, [], ◌∷◌, true, false, not, ◌&&◌, ◌==◌, Result, Ok}
 use Rattle.answer.specs.declared.Refusal.{Refusal}
 use Rattle.answer.specs.declared.Refusal.TheVariants.{Row}

@@ -1,5 +1,5 @@
 -- The words of a node's paths: those of a terminal, and those along the edges of a node that goes by them.
-use Rattle.std.proofs.Common.{◌≡◌, ℕ, zero, suc, ◌+◌, ◌-◌, ◌≤◌, ◌<◌, List, [], ◌∷◌, ◌++◌, length, take, take_at, length-append, Result, Ok, Err, refl, sym, ap, ◌∙◌, arith, append-nil, append_assoc}
+use Rattle.std.proofs.Common.{◌≡◌, ℕ, zero, suc, ◌-◌, ◌<◌, List, [], ◌∷◌, ◌++◌, length, take, take_at, length-append, Result, Ok, Err, refl, sym, ap, ◌∙◌, arith, append-nil, append_assoc}
 use mathlib.Core.List.{flat_map}
 use Rattle.answer.specs.Checks.{◌>>=◌, checked}
 use Rattle.answer.specs.declared.Refusal.{Refusal}
@@ -8,10 +8,8 @@ use Rattle.game.specs.Game.{Game}
 use Rattle.game.specs.Edges.{outgoing_action_edges}
 use Rattle.sheet.specs.declared.Terminal.{Terminal}
 use Rattle.sheet.specs.Meaning.{game_of}
-use Rattle.text.specs.Written.{written}
-use Rattle.text.proofs.WrittenLaws.{written_empty, written_append}
-use Rattle.path_counts.specs.Paths.{Path, after, along, by_edges, paths, record_of, records}
-use Rattle.path_counts.proofs.PathLaws.{records_append}
+use Rattle.path_counts.specs.Paths.{Path, prefixed, along, by_edges, paths, record_of, records}
+use Rattle.std.proofs.lemmas.Grind.{flat_map-append}
 use Rattle.paths.specs.Writing.{words_from, words_along, path_to, EndsAt, GoesOn}
 
 -- what is not refused is Ok
@@ -28,29 +26,29 @@ some_depth g e (suc d) h = omega arith
 -- ---- labels in front of paths
 module _ (ls : List ℕ) where
   -- one label more
-  after_snoc : (l : ℕ) (ps : List Path) → after (ls ++ (l ∷ [])) ps ≡ after ls (after (l ∷ []) ps)
-  unfolding after
-  after_snoc l [] = refl
-  after_snoc l (p ∷ ps) = rw (append_assoc, after_snoc l ps)
+  prefixed_snoc : (l : ℕ) (ps : List Path) → prefixed (ls ++ (l ∷ [])) ps ≡ prefixed ls (prefixed (l ∷ []) ps)
+  unfolding prefixed
+  prefixed_snoc l [] = refl
+  prefixed_snoc l (p ∷ ps) = rw (append_assoc, prefixed_snoc l ps)
 
-  after_append : (ps qs : List Path) → after ls (ps ++ qs) ≡ after ls ps ++ after ls qs
-  unfolding after
-  after_append [] qs = refl
-  after_append (p ∷ ps) qs = rw (after_append ps qs)
+  prefixed_append : (ps qs : List Path) → prefixed ls (ps ++ qs) ≡ prefixed ls ps ++ prefixed ls qs
+  unfolding prefixed
+  prefixed_append [] qs = refl
+  prefixed_append (p ∷ ps) qs = rw (prefixed_append ps qs)
 
-pub after_none : (ps : List Path) → after [] ps ≡ ps
-unfolding after
-after_none [] = refl
-after_none (p ∷ ps) = rw (after_none ps)
+pub prefixed_none : (ps : List Path) → prefixed [] ps ≡ ps
+unfolding prefixed
+prefixed_none [] = refl
+prefixed_none (p ∷ ps) = rw (prefixed_none ps)
 
-pub words_are : (g : Game) (left e : ℕ) (labels : List ℕ) (ps : List Path) → paths g left e ≡ Ok ps → words_from g left e labels ≡ records (after labels ps)
+pub words_are : (g : Game) (left e : ℕ) (labels : List ℕ) (ps : List Path) → paths g left e ≡ Ok ps → words_from g left e labels ≡ records (prefixed labels ps)
 unfolding words_from
 words_are g left e labels ps h = rw h
 
 -- a terminal's words are the record of the path to it
 pub terminal_words : (s : List ℕ) (e left : ℕ) (t : Terminal) (labels : List ℕ) → EndsAt s e t → checked (paths (game_of s) left e) ≡ Ok tt
     → words_from (game_of s) left e labels ≡ record_of (path_to s t labels)
-unfolding flat_map after paths
+unfolding flat_map prefixed paths
 terminal_words s e zero t labels ends h = absurd cc
 terminal_words s e (suc d) t labels ends h = words_are (game_of s) (suc d) e labels _ (ends.one_path d) ∙ rw (append-nil, append-nil)
 
@@ -60,26 +58,26 @@ pub record IsSound (g : Game) (left : ℕ) (xs : List ActionEdge) : Type 0 where
   pub sound : checked (along (paths g left) xs) ≡ Ok tt
 
 module _ (g : Game) (left : ℕ) where
-  words_edges : (labels : List ℕ) (xs : List ActionEdge) (ps : List Path) → along (paths g left) xs ≡ Ok ps → words_along g left labels xs ≡ records (after labels ps)
-  unfolding along words_along after flat_map
+  words_edges : (labels : List ℕ) (xs : List ActionEdge) (ps : List Path) → along (paths g left) xs ≡ Ok ps → words_along g left labels xs ≡ records (prefixed labels ps)
+  unfolding along words_along prefixed flat_map
   words_edges labels [] ps h = let none : ps ≡ [] = cc in rw none
   words_edges labels (x ∷ xs) ps h = next (paths g left x.target) (along (paths g left) xs) refl refl h (words_edges labels xs)
     where
       next : (a b : Result (List Path) Refusal) → paths g left x.target ≡ a → along (paths g left) xs ≡ b
-          → (a >>= λ qs. b >>= λ rs. Ok (after (x.label ∷ []) qs ++ rs)) ≡ Ok ps
-          → ((rs : List Path) → along (paths g left) xs ≡ Ok rs → words_along g left labels xs ≡ records (after labels rs))
-          → words_from g left x.target (labels ++ x.label ∷ []) ++ words_along g left labels xs ≡ records (after labels ps)
+          → (a >>= λ qs. b >>= λ rs. Ok (prefixed (x.label ∷ []) qs ++ rs)) ≡ Ok ps
+          → ((rs : List Path) → along (paths g left) xs ≡ Ok rs → words_along g left labels xs ≡ records (prefixed labels rs))
+          → words_from g left x.target (labels ++ x.label ∷ []) ++ words_along g left labels xs ≡ records (prefixed labels ps)
       next (Err r) b p q e rest = absurd cc
       next (Ok qs) (Err r) p q e rest = absurd cc
       next (Ok qs) (Ok rs) p q e rest =
-          let all : after (x.label ∷ []) qs ++ rs ≡ ps = cc in
-          rw (← all, after_append labels, records_append, ← after_snoc labels, words_are g left x.target (labels ++ x.label ∷ []) qs p, rest rs q)
+          let all : prefixed (x.label ∷ []) qs ++ rs ≡ ps = cc in
+          rw (← all, prefixed_append labels, flat_map-append, ← prefixed_snoc labels, words_are g left x.target (labels ++ x.label ∷ []) qs p, rest rs q)
 
   pub edge_sound : (x : ActionEdge) (xs : List ActionEdge) → IsSound g left (x ∷ xs) → (checked (paths g left x.target) ≡ Ok tt) × IsSound g left xs
   unfolding along
   edge_sound x xs h = go (paths g left x.target) (along (paths g left) xs) refl refl h.sound
     where
-      go : (a b : Result (List Path) Refusal) → paths g left x.target ≡ a → along (paths g left) xs ≡ b → checked (a >>= λ qs. b >>= λ rs. Ok (after (x.label ∷ []) qs ++ rs)) ≡ Ok tt
+      go : (a b : Result (List Path) Refusal) → paths g left x.target ≡ a → along (paths g left) xs ≡ b → checked (a >>= λ qs. b >>= λ rs. Ok (prefixed (x.label ∷ []) qs ++ rs)) ≡ Ok tt
           → (checked (paths g left x.target) ≡ Ok tt) × IsSound g left xs
       go (Err r) b p q e = absurd cc
       go (Ok qs) (Err r) p q e = absurd cc
@@ -142,15 +140,8 @@ module _ (g : Game) (left : ℕ) (labels : List ℕ) where
     unfolding words_along
     along_next = refl
 
-    pub along_length : length (words_along g left labels (x ∷ xs)) ≡ length (words_from g left x.target (labels ++ x.label ∷ [])) + length (words_along g left labels xs)
-    along_length = rw along_next (length-append (words_from g left x.target (labels ++ x.label ∷ [])) (words_along g left labels xs))
-
-    pub along_written : (b : List ℕ) (at : ℕ) → at ≤ length b
-        → written b at (words_along g left labels (x ∷ xs)) ≡ written (written b at (words_from g left x.target (labels ++ x.label ∷ []))) (at + length (words_from g left x.target (labels ++ x.label ∷ []))) (words_along g left labels xs)
-    along_written b at l = rw along_next (sym (written_append b at (words_from g left x.target (labels ++ x.label ∷ [])) (words_along g left labels xs) l))
-
 -- a label that is pushed and popped
 pub popped : (xs : List ℕ) (x : ℕ) → take (length (xs ++ x ∷ []) - 1) (xs ++ x ∷ []) ≡ xs
 popped xs x = let one_less : length (xs ++ x ∷ []) - 1 ≡ length xs = rw length-append (omega arith) in rw one_less (take_at xs (x ∷ []) (length xs) refl)
 
-pub ruleset walk_steps = (terminal_words, some_depth, edges_sound, edges_words, edges_rest, edge_sound, along_none, along_length, along_written, popped, written_empty)
+pub ruleset walk_steps = (terminal_words, some_depth, edges_sound, edges_words, edges_rest, edge_sound, along_none, along_next, popped)

@@ -1,10 +1,11 @@
 //! The walk that writes paths, once they are known to have no fault and to fit.
-ghost use Rattle.std.specs.Prelude.{◌≡◌, ◌+◌, ◌≤◌, ◌<◌, map, length, IfSome, IfNone, Ok};
+ghost use Rattle.std.specs.Prelude.{◌≡◌, ◌+◌, ◌≤◌, ◌<◌, [], map, length, IfSome, IfNone, Ok};
 ghost use Rattle.arrayvec.specs.ArrayVec.{array_vec_len};
 ghost use Rattle.answer.specs.Checks.{checked};
 ghost use Rattle.number.specs.Number.{to_bits};
 ghost use Rattle.rows.specs.Store.{rows_from};
 ghost use Rattle.text.specs.Written.{Writes};
+ghost use Rattle.text.specs.Writing.{appended, Fits};
 ghost use Rattle.layout.specs.Layout.{row_count};
 ghost use Rattle.layout.specs.declared.section.Section.TheVariants.{Payoffs};
 ghost use Rattle.sheet.specs.Meaning.{payoff_row, game_of};
@@ -13,23 +14,10 @@ ghost use Rattle.path_counts.specs.Paths.{paths, record_of};
 ghost use Rattle.paths.specs.Writing.{words_from, path_to, EndsAt, GoesOn};
 
 use arrayvec::ArrayVec;
-use game::Kind;
+use game::{ActionEdge, Kind};
 use lookup::Lookup;
 use sheet::{Sheet, Terminal};
-
-/// Writes labels at a place of the buffer; the answer is the place after them.
-#[tactic(auto, using(crate::proofs::Words::label_steps))]
-fn write_labels(out: &mut [u64], at: usize, labels: &[u32]) -> usize
-    requires { at + length labels.now ≤ length out.old }
-    ensures { Writes out.old at labels.now out.new result }
-{
-    let mut end = at;
-    for label in labels {
-        out[end] = u64::from(*label);
-        end += 1;
-    }
-    end
-}
+use text::Writer;
 
 #[tactic(auto, using(opening::proofs::AcceptedFields::payoff_finite), unfolding(sheet::specs::Meaning::payoff_row))]
 fn payoff_bits(sheet: Sheet, j: usize) -> u64
@@ -39,32 +27,32 @@ fn payoff_bits(sheet: Sheet, j: usize) -> u64
     number::to_bits(sheet.payoff(j).value())
 }
 
-/// Writes the bits of payoff rows at a place of the buffer; the answer is the place after them.
-#[tactic(auto, using(crate::proofs::Words::payoff_steps))]
-fn write_payoffs(sheet: Sheet, out: &mut [u64], at: usize, first: usize, count: usize) -> usize
-    requires { (first + count ≤ row_count sheet.bytes.now Payoffs) × (at + count ≤ length out.old) }
-    ensures { Writes out.old at (map to_bits (rows_from (payoff_row sheet.entry.bytes.now) first count)) out.new result }
+/// Writes the bits of payoff rows.
+#[tactic(auto, using(text::proofs::WritingLaws::writing, crate::proofs::Words::payoff_steps))]
+fn write_payoffs(words: &mut Writer<u64>, sheet: Sheet, first: usize, count: usize)
+    requires rows { first + count ≤ row_count sheet.bytes.now Payoffs }
+    requires room { Fits words.old (map to_bits (rows_from (payoff_row sheet.bytes.now) first count)) }
+    ensures { words.new ≡ appended words.old (map to_bits (rows_from (payoff_row sheet.entry.bytes.now) first count)) }
 {
-    let mut end = at;
     for j in first..first + count {
-        out[end] = payoff_bits(sheet, j);
-        end += 1;
+        words.push_one(payoff_bits(sheet, j));
     }
-    end
 }
 
-/// Writes the path to a terminal by the labels at a place of the buffer; the answer is the place after it.
-#[tactic(auto, using(crate::proofs::Records::record_steps))]
-fn write_path(sheet: Sheet, out: &mut [u64], at: usize, labels: &[u32], terminal: Terminal) -> usize
+/// Writes the path to a terminal by the labels.
+#[tactic(auto, using(text::proofs::WritingLaws::writing, crate::proofs::Words::record_parts))]
+fn write_path(words: &mut Writer<u64>, sheet: Sheet, labels: &[u64], terminal: Terminal)
     requires terminal { InSheet sheet.bytes.now terminal }
-    requires room { at + length (record_of (path_to sheet.bytes.now terminal labels.now)) ≤ length out.old }
-    ensures { Writes out.old at (record_of (path_to sheet.entry.bytes.now terminal labels.now)) out.new result }
+    requires room { Fits words.old (record_of (path_to sheet.bytes.now terminal labels.now)) }
+    ensures { words.new ≡ appended words.old (record_of (path_to sheet.entry.bytes.now terminal labels.now)) }
 {
-    out[at] = u64::from(terminal.entity);
-    out[at + 1] = terminal.count as u64;
-    out[at + 2] = labels.len() as u64;
-    let end = write_labels(out, at + 3, labels);
-    write_payoffs(sheet, out, end, terminal.first, terminal.count)
+    words.push(&[
+        u64::from(terminal.entity),
+        terminal.count as u64,
+        labels.len() as u64,
+    ]);
+    words.push(labels);
+    write_payoffs(words, sheet, terminal.first, terminal.count);
 }
 
 /// The terminal that a node is, where it is one.
@@ -80,59 +68,62 @@ fn terminal_at(lookup: Lookup, entity: u32) -> Option<Terminal>
     }
 }
 
-/// Writes the paths from a node, each behind the labels on the way to it, at a place of the buffer; the answer is the place after
-/// them. The stack that it takes grows with the depth.
+/// Writes the paths from a node, each behind the labels on the way to it. The stack that it takes grows with the depth.
 #[cycle(write)]
-#[tactic(auto, using(crate::proofs::Steps::walk_steps))]
-pub fn write_paths(
+#[tactic(auto, using(text::proofs::WritingLaws::writing, crate::proofs::Steps::walk_steps))]
+fn write_paths(
+    words: &mut Writer<u64>,
     lookup: Lookup,
-    out: &mut [u64],
-    at: usize,
-    labels: &mut ArrayVec<u32, 64>,
+    labels: &mut ArrayVec<u64, 64>,
     entity: u32,
     left: usize,
-) -> usize
+)
     requires sound { checked (paths (game_of lookup.sheet.now) left entity) ≡ Ok tt }
     requires deep { array_vec_len labels.old + left ≤ 64 }
-    requires room { at + length (words_from (game_of lookup.sheet.now) left entity labels.old.items) ≤ length out.old }
-    ensures words { Writes out.old at (words_from (game_of lookup.entry.sheet.now) left entity labels.old.items) out.new result }
+    requires room { Fits words.old (words_from (game_of lookup.sheet.now) left entity labels.old.items) }
+    ensures words { words.new ≡ appended words.old (words_from (game_of lookup.entry.sheet.now) left entity labels.old.items) }
     ensures labels { labels.new.items ≡ labels.old.items }
 {
     match terminal_at(lookup, entity) {
-        Some(terminal) => write_path(
-            sheet::sheet_of(lookup),
-            out,
-            at,
-            labels.as_slice(),
-            terminal,
-        ),
-        None => write_edges(lookup, out, at, labels, entity, left),
+        Some(terminal) => write_path(words, sheet::sheet_of(lookup), labels.as_slice(), terminal),
+        None => write_edges(words, lookup, labels, entity, left),
     }
 }
 
 /// Writes the paths from a node that goes by its edges.
 #[cycle(write)]
-#[tactic(auto, using(crate::proofs::Steps::walk_steps))]
+#[tactic(auto, using(text::proofs::WritingLaws::writing, crate::proofs::Steps::walk_steps), unfolding(game::specs::Edges::outgoing_action_edges))]
 fn write_edges(
+    words: &mut Writer<u64>,
     lookup: Lookup,
-    out: &mut [u64],
-    at: usize,
-    labels: &mut ArrayVec<u32, 64>,
+    labels: &mut ArrayVec<u64, 64>,
     entity: u32,
     left: usize,
-) -> usize
+)
     requires goes_on { GoesOn (game_of lookup.sheet.now) entity }
     requires sound { checked (paths (game_of lookup.sheet.now) left entity) ≡ Ok tt }
     requires deep { array_vec_len labels.old + left ≤ 64 }
-    requires room { at + length (words_from (game_of lookup.sheet.now) left entity labels.old.items) ≤ length out.old }
-    ensures words { Writes out.old at (words_from (game_of lookup.entry.sheet.now) left entity labels.old.items) out.new result }
+    requires room { Fits words.old (words_from (game_of lookup.sheet.now) left entity labels.old.items) }
+    ensures words { words.new ≡ appended words.old (words_from (game_of lookup.entry.sheet.now) left entity labels.old.items) }
     ensures labels { labels.new.items ≡ labels.old.items }
 {
-    let mut end = at;
-    for edge in path_counts::sound_actions(lookup, entity) {
-        labels.push(edge.label);
-        end = write_paths(lookup, out, end, labels, edge.target, left - 1);
+    for edge in edges::sound_edges::<ActionEdge>(lookup, entity) {
+        labels.push(u64::from(edge.label));
+        write_paths(words, lookup, labels, edge.target, left - 1);
         labels.pop();
     }
-    end
+}
+
+/// Writes the paths from a node at the buffer's front: how many words they are.
+#[tactic(auto, unfolding(text::specs::Writing::appended))]
+pub fn write_all(lookup: Lookup, out: &mut [u64], entity: u32, left: usize) -> usize
+    requires sound { checked (paths (game_of lookup.sheet.now) left entity) ≡ Ok tt }
+    requires deep { left ≤ 64 }
+    requires room { length (words_from (game_of lookup.sheet.now) left entity []) ≤ length out.old }
+    ensures { Writes out.old 0 (words_from (game_of lookup.entry.sheet.now) left entity []) out.new result }
+{
+    let mut words = Writer::new(out);
+    let mut labels = ArrayVec::new();
+    write_paths(&mut words, lookup, &mut labels, entity, left);
+    words.len()
 }

@@ -1,4 +1,4 @@
-// Reading what a reader has into a lent buffer, as far as there is room.
+//! Reading what a reader has into a lent buffer, as far as there is room.
 #![tactic(auto)]
 
 ghost use Rattle.std.specs.Prelude.{◌≡◌, ◌≤◌, ◌<◌, length, take, MatchResult, IfOk, IfErr};

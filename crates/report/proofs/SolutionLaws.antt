@@ -1,15 +1,12 @@
 -- Of a sheet that opens the payoffs of a solution are finite, so that they can be printed; and what the program prints.
+use Rattle.std.proofs.Common.{◌≡◌, ℕ, ◌≤◌, ◌<◌, T, List, length, get_or, sym, ap, ◌∙◌, arith}
 use Rattle.std.specs.Prelude.{Err, Ok}
-use Prim.Native.Nat.{ℕ, zero, suc, ◌≤◌, ◌<◌}
-use mathlib.Core.Path.{◌≡◌, refl, sym, ap, ◌∙◌}
-use mathlib.Core.Bool.{Bool, true, false, ◌&&◌}
-use mathlib.Core.List.{List, [], ◌∷◌, map}
-use native.Mathlib.Omega.{arith}
-use lib.Dec.{T}
-use lib.Ieee.{Float}
-use lib.ListN.{length, get_or, length-map, get_or-map}
-use denote.Floats.{passes}
-use Rattle.number.specs.Number.{Number, is_finite}
+use Rattle.std.specs.List.{All}
+use Rattle.std.proofs.lemmas.Option.{slice_get-get_or}
+use mathlib.Core.List.{map}
+use lib.Ieee.{Float, nan}
+use lib.ListN.{length-map, get_or-map}
+use Rattle.number.specs.Number.{is_finite}
 use Rattle.number.specs.Meaning.{meaning}
 use Rattle.answer.specs.declared.Refusal.{Refusal}
 use Rattle.layout.specs.Layout.{root_of}
@@ -18,38 +15,23 @@ use Rattle.sheet.specs.Limit.{depth_of}
 use Rattle.sheet.proofs.AcceptedGame.{accepted}
 use Rattle.backward_induction.specs.declared.Method.{Method}
 use Rattle.backward_induction.specs.declared.Method.TheVariants.{ChanceWeighted}
-use Rattle.backward_induction.specs.Solve.{Solution, all_finite}
 use Rattle.backward_induction.specs.Call.{solution}
-use Rattle.backward_induction.proofs.Bounds.{all_finite_lem}
 use Rattle.backward_induction.proofs.NoBetter.{solve_finite}
 use Rattle.backward_induction.proofs.CallLaws.{call_unopened, call_solves}
+use Rattle.turns.specs.Payoffs.{payoffs_of}
+use Rattle.solver.specs.declared.solution.Solution.{Solution as Answer}
+use Rattle.solver.specs.Solutions.{solution_of}
 use Rattle.report.specs.Report.{refused_line, report, printed}
 
--- ---- finite payoffs
-both : (a b : Bool) → a && b ≡ true → (a ≡ true) × (b ≡ true)
-both true b e = (refl, e)
-both false b e = (e, cc)
+pub payoff_finite : (xs : List Float) (j : ℕ) → j < length xs → All (λ p. T (is_finite p)) (map meaning xs) → T (is_finite (meaning (get_or xs j nan)))
+payoff_finite xs j l h = rw (get_or-map meaning xs j nan) at (h j (meaning nan) (rw length-map l))
 
-finite_at : (vs : List Number) → all_finite vs ≡ true → (i : ℕ) (z : Number) → i < length vs → is_finite (get_or vs i z) ≡ true
-unfolding all_finite
-finite_at [] h i z l = absurd (omega arith)
-finite_at (v ∷ vs) h zero z l = (both (is_finite v) (all_finite vs) h).0
-finite_at (v ∷ vs) h (suc i) z l = finite_at vs (both (is_finite v) (all_finite vs) h).1 i z (omega arith)
+-- a solution of a sheet that opens
+pub solution_finite : (method : Method) (s : List ℕ) (start limit : ℕ) (x : Answer) → Opens s → limit ≤ 64 → Ok (solution_of x) ≡ solution method s start limit → All (λ p. T (is_finite p)) (payoffs_of x.payoffs)
+solution_finite method s start limit x ok most e i d l =
+    solve_finite method (game_of s) (accepted s ok) (depth_of limit) start (solution_of x) (sym (e ∙ call_solves method s start limit most ok)) i _ (slice_get-get_or _ i d l)
 
-pub payoff_finite : (xs : List Float) (j : ℕ) → j < length xs → all_finite (map meaning xs) ≡ true → T (is_finite (meaning (get_or xs j Float.nan)))
-payoff_finite xs j l h = passes _ (rw (get_or-map meaning xs j Float.nan) at (finite_at (map meaning xs) h j (meaning Float.nan) (rw (length-map xs meaning) l)))
-
-holds : (b : Bool) → T b → b ≡ true
-holds true t = refl
-holds false t = absurd t
-
--- ---- a solution of a sheet that opens
-pub solution_finite : (method : Method) (s : List ℕ) → Opens s → (start limit : ℕ) → limit ≤ 64 → (x : Solution) → solution method s start limit ≡ Ok x → all_finite x.payoffs ≡ true
-solution_finite method s ok start limit most x e =
-    all_finite_lem x.payoffs
-    (λ i u h. holds _ (solve_finite method (game_of s) (accepted s ok) (depth_of limit) start x (sym (call_solves method s start limit most ok) ∙ e) i u h))
-
--- ---- what the program prints
+-- what the program prints
 pub printed_refused : (s : List ℕ) (r : Refusal) → opening s ≡ Err r → printed s ≡ refused_line r
 unfolding printed report
 printed_refused s r e = ap (report (game_of s)) (call_unopened ChanceWeighted s (root_of s) 0 (omega arith) r e)

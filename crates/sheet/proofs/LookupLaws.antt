@@ -7,7 +7,8 @@ use Rattle.layout.specs.Layout.{width, section_of, row_count}
 use Rattle.lookup.proofs.FoundLaws.{lookup_row}
 use Rattle.game.specs.declared.Node.{Node}
 use Rattle.game.specs.declared.ActionEdge.{ActionEdge}
-use Rattle.game.specs.Game.{Chance, TerminalUtility, node_of, action_of, chance_of, terminal_of}
+use Rattle.game.specs.Chance.{Chance}
+use Rattle.game.specs.Game.{TerminalUtility, node_of, action_of, chance_of, terminal_of}
 use Rattle.sheet.specs.Meaning.{node_row, action_row, chance_row, terminal_row, game_of}
 
 module _ (s : List ℕ) (e : ℕ) where

@@ -9,8 +9,7 @@ use Rattle.answer.specs.declared.Refusal.TheVariants.{NoOutgoingActions, NoOutgo
 use Rattle.number.specs.Number.{Number, less}
 use Rattle.number.specs.Meaning.{meaning}
 use Rattle.game.specs.declared.ActionEdge.{ActionEdge}
-use Rattle.game.specs.declared.ChanceOutcome.{ChanceOutcome}
-use Rattle.game.specs.Game.{Chance, chance_in}
+use Rattle.game.specs.Chance.{Chance}
 use Rattle.backward_induction.specs.Solve.{Solution, Solver, Reply, reply, better, taken, weighed}
 use Rattle.backward_induction.specs.Turns.{leading, best_from, added_to, sums_from}
 use Rattle.memo.specs.declared.Kept.{Kept}
@@ -20,10 +19,8 @@ use Rattle.turns.specs.declared.payoffs.Payoffs.{Payoffs}
 use Rattle.turns.specs.Payoffs.{payoffs_of}
 use Rattle.turns.specs.Plays.{actions_from, replied, reply_of, better_of}
 use Rattle.solver.specs.declared.task.Task.{Task}
-use Rattle.solver.specs.Tasks.{bytes_of, solved, actions_in, actions_at, told_of, Answered}
-use Rattle.solver.specs.Given.{given_by, action_at, outcome_at}
+use Rattle.solver.specs.Tasks.{solved, actions_in, actions_at, told_of, Answered}
 use Rattle.solver.specs.Loops.{IsLead, Deciding, Weighing}
-use Rattle.solver.proofs.GivenLaws.{given_none, given_skip, skip_sound, given_keep, keep_sound}
 
 -- the greater of two heights
 pub deeper : (a b m : ℕ) → m ≡ ord_max nat_cmp a b → m ≡ max a b
@@ -80,47 +77,33 @@ module _ (t : Task) (e p deepest : ℕ) (lead : Option Candidate) where
   -- ---- the end
   pub no_reply : Deciding t e p deepest None [] → (d : ℕ) → deepest ≤ d → solved t (d + 1) e ≡ Err (NoOutgoingActions e)
   unfolding best_from
-  no_reply on d h = on.left d h ∙ rw (given_none (action_at (bytes_of t) e)) refl
+  no_reply on d h = on.left d h
 
   pub best_reply : (r : Candidate) → Deciding t e p deepest (Some r) [] → (d : ℕ) → deepest ≤ d → solved t (d + 1) e ≡ Ok (taken (reply_of (actions_at t) r))
   unfolding best_from
-  best_reply r on d h = on.left d h ∙ rw (given_none (action_at (bytes_of t) e)) refl
+  best_reply r on d h = on.left d h
 
-  module _ (row : ℕ) (rows : List ℕ) (on : Deciding t e p deepest lead (row ∷ rows)) where
-    pub row_skips : action_at (bytes_of t) e row ≡ Ok None → Deciding t e p deepest lead rows
-    row_skips h =
-        record {
-          sound = skip_sound (bytes_of t) (action_at (bytes_of t) e) row rows on.sound h;
-          lead_is = on.lead_is;
-          left = λ d l. rw (← given_skip (bytes_of t) (action_at (bytes_of t) e) row rows on.sound h) (on.left d l);
-        }
+  module _ (x : ActionEdge) (xs : List ActionEdge) (on : Deciding t e p deepest lead (x ∷ xs)) where
+    pub target_refused : (d : ℕ) (r : Refusal) → deepest ≤ d → solved t d x.target ≡ Err r → solved t (d + 1) e ≡ Err r
+    target_refused d r l h = on.left d l ∙ ap (λ a. a >>= λ r. Ok (taken r)) (best_stops _ e p _ x _ r (reply_stops _ p x r h))
 
-    module _ (x : ActionEdge) (here : action_at (bytes_of t) e row ≡ Ok (Some x)) where
-      left_next : (d : ℕ) → deepest ≤ d
-          → solved t (d + 1) e ≡ (best_from (solved t d) e p (option_map (reply_of (actions_at t)) lead) (x ∷ given_by (action_at (bytes_of t) e) rows) >>= λ r. Ok (taken r))
-      left_next d h = rw (← given_keep (bytes_of t) (action_at (bytes_of t) e) row rows on.sound x here) (on.left d h)
+    module _ (left : ℕ) (kept : Kept Play) (answered : Answered t left x.target kept) (low : left ≤ 64) where
+      pub reply_refused : (r : Refusal) → Err r ≡ replied x (told_of t kept.answer) p → deepest ≤ left → solved t (left + 1) e ≡ Err r
+      reply_refused r q l =
+          let near = answered.low in
+          on.left left l ∙ ap (λ a. a >>= λ r. Ok (taken r)) (best_stops _ e p _ x _ r (reply_by _ p x _ (answered.is_right.right left near) ∙ sym q))
 
-      pub target_refused : (d : ℕ) (r : Refusal) → deepest ≤ d → solved t d x.target ≡ Err r → solved t (d + 1) e ≡ Err r
-      target_refused d r l h = left_next d l ∙ ap (λ a. a >>= λ r. Ok (taken r)) (best_stops _ e p _ x _ r (reply_stops _ p x r h))
-
-      module _ (left : ℕ) (kept : Kept Play) (answered : Answered t left x.target kept) (low : left ≤ 64) where
-        pub reply_refused : (r : Refusal) → Err r ≡ replied x (told_of t kept.answer) p → deepest ≤ left → solved t (left + 1) e ≡ Err r
-        reply_refused r q l =
-            let near = answered.low in
-            left_next left l ∙ ap (λ a. a >>= λ r. Ok (taken r)) (best_stops _ e p _ x _ r (reply_by _ p x _ (answered.is_right.right left near) ∙ sym q))
-
-        pub reply_goes : (r : Candidate) → Ok (reply_of (actions_at t) r) ≡ replied x (told_of t kept.answer) p → r.edge ≡ x → r.play ≡ kept.answer
-            → Deciding t e p (max deepest kept.height) (Some (better_of lead r)) rows
-        reply_goes r q same_edge same_play =
-            record {
-              sound = keep_sound (bytes_of t) (action_at (bytes_of t) e) row rows on.sound x here;
-              lead_is = better_follows t lead r on.lead_is (rw (same_edge, same_play) (answered_actions t left x.target kept answered low));
-              left = λ d h.
-                  left_next d (omega arith)
-                  ∙ ap (λ a. a >>= λ r. Ok (taken r))
-                  (best_goes _ e p _ x _ _ (reply_by _ p x _ (answered.is_right.right d (omega arith)) ∙ sym q)
-                  ∙ ap (λ y. best_from (solved t d) e p (Some y) (given_by (action_at (bytes_of t) e) rows)) (lead_better (actions_at t) lead r));
-            }
+      pub reply_goes : (r : Candidate) → Ok (reply_of (actions_at t) r) ≡ replied x (told_of t kept.answer) p → r.edge ≡ x → r.play ≡ kept.answer
+          → Deciding t e p (max deepest kept.height) (Some (better_of lead r)) xs
+      reply_goes r q same_edge same_play =
+          record {
+            lead_is = better_follows t lead r on.lead_is (rw (same_edge, same_play) (answered_actions t left x.target kept answered low));
+            left = λ d h.
+                on.left d (omega arith)
+                ∙ ap (λ a. a >>= λ r. Ok (taken r))
+                (best_goes _ e p _ x _ _ (reply_by _ p x _ (answered.is_right.right d (omega arith)) ∙ sym q)
+                ∙ ap (λ y. best_from (solved t d) e p (Some y) xs) (lead_better (actions_at t) lead r));
+          }
 
 -- the play of the best reply
 pub play_taken : (t : Task) (r : Candidate) (play : Play) → IsLead t (Some r) → play.terminal ≡ r.play.terminal → play.first ≡ Some r.edge → play.payoffs ≡ r.play.payoffs
@@ -149,40 +132,27 @@ sums_go f e sums o os s more h q = sums_turn f e sums o os s h ∙ rw (← q) re
 module _ (t : Task) (e deepest : ℕ) (sums : Option Payoffs) where
   pub no_outcome : Weighing t e deepest None [] → (d : ℕ) → deepest ≤ d → solved t (d + 1) e ≡ Err (NoOutgoingChanceOutcomes e)
   unfolding sums_from
-  no_outcome on d h = on.left d h ∙ rw (given_none (outcome_at (bytes_of t) e)) refl
+  no_outcome on d h = on.left d h
 
   pub all_outcomes : (q : Payoffs) → Weighing t e deepest (Some q) [] → (d : ℕ) → deepest ≤ d → solved t (d + 1) e ≡ weighed e (payoffs_of q)
   unfolding sums_from
-  all_outcomes q on d h = on.left d h ∙ rw (given_none (outcome_at (bytes_of t) e)) refl
+  all_outcomes q on d h = on.left d h
 
-  module _ (row : ℕ) (rows : List ℕ) (on : Weighing t e deepest sums (row ∷ rows)) where
-    pub outcome_skips : outcome_at (bytes_of t) e row ≡ Ok None → Weighing t e deepest sums rows
-    outcome_skips h =
-        record {
-          sound = skip_sound (bytes_of t) (outcome_at (bytes_of t) e) row rows on.sound h;
-          left = λ d l. rw (← given_skip (bytes_of t) (outcome_at (bytes_of t) e) row rows on.sound h) (on.left d l);
-        }
+  module _ (o : Chance) (os : List Chance) (on : Weighing t e deepest sums (o ∷ os)) where
+    pub outcome_refused : (d : ℕ) (r : Refusal) → deepest ≤ d → solved t d o.target ≡ Err r → solved t (d + 1) e ≡ Err r
+    outcome_refused d r l h = on.left d l ∙ ap (λ a. a >>= weighed e) (sums_stop _ e _ o _ r h)
 
-    module _ (o : ChanceOutcome) (here : outcome_at (bytes_of t) e row ≡ Ok (Some (chance_in o))) where
-      outcomes_next : (d : ℕ) → deepest ≤ d
-          → solved t (d + 1) e ≡ (sums_from (solved t d) e (option_map payoffs_of sums) (chance_in o ∷ given_by (outcome_at (bytes_of t) e) rows) >>= weighed e)
-      outcomes_next d h = rw (← given_keep (bytes_of t) (outcome_at (bytes_of t) e) row rows on.sound (chance_in o) here) (on.left d h)
+    module _ (left : ℕ) (kept : Kept Play) (answered : Answered t left o.target kept) where
+      pub counts_differ : (r : Refusal) → Err r ≡ added_to e (option_map payoffs_of sums) o.probability (payoffs_of kept.answer.payoffs) → deepest ≤ left → solved t (left + 1) e ≡ Err r
+      counts_differ r q l =
+          let near = answered.low in
+          on.left left l ∙ ap (λ a. a >>= weighed e) (sums_refused _ e _ o _ _ r (answered.is_right.right left near) q)
 
-      pub outcome_refused : (d : ℕ) (r : Refusal) → deepest ≤ d → solved t d o.target ≡ Err r → solved t (d + 1) e ≡ Err r
-      outcome_refused d r l h = outcomes_next d l ∙ ap (λ a. a >>= weighed e) (sums_stop _ e _ (chance_in o) _ r h)
-
-      module _ (left : ℕ) (kept : Kept Play) (answered : Answered t left o.target kept) where
-        pub counts_differ : (r : Refusal) → Err r ≡ added_to e (option_map payoffs_of sums) (meaning o.probability) (payoffs_of kept.answer.payoffs) → deepest ≤ left → solved t (left + 1) e ≡ Err r
-        counts_differ r q l =
-            let near = answered.low in
-            outcomes_next left l ∙ ap (λ a. a >>= weighed e) (sums_refused _ e _ (chance_in o) _ _ r (answered.is_right.right left near) q)
-
-        pub outcome_goes : (more : Payoffs) → Ok (payoffs_of more) ≡ added_to e (option_map payoffs_of sums) (meaning o.probability) (payoffs_of kept.answer.payoffs)
-            → Weighing t e (max deepest kept.height) (Some more) rows
-        outcome_goes more q =
-            record {
-              sound = keep_sound (bytes_of t) (outcome_at (bytes_of t) e) row rows on.sound (chance_in o) here;
-              left = λ d h.
-                  outcomes_next d (omega arith)
-                  ∙ ap (λ a. a >>= weighed e) (sums_go _ e _ (chance_in o) _ _ (payoffs_of more) (answered.is_right.right d (omega arith)) q);
-            }
+      pub outcome_goes : (more : Payoffs) → Ok (payoffs_of more) ≡ added_to e (option_map payoffs_of sums) o.probability (payoffs_of kept.answer.payoffs)
+          → Weighing t e (max deepest kept.height) (Some more) os
+      outcome_goes more q =
+          record {
+            left = λ d h.
+                on.left d (omega arith)
+                ∙ ap (λ a. a >>= weighed e) (sums_go _ e _ o _ _ (payoffs_of more) (answered.is_right.right d (omega arith)) q);
+          }

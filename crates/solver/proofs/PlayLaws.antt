@@ -1,5 +1,5 @@
 -- The actions along a play, one node at a time.
-use Rattle.std.proofs.Common.{◌≡◌, ℕ, zero, suc, ◌+◌, ◌-◌, ◌<◌, ◌≤◌, List, [], ◌∷◌, ◌++◌, Ok, Err, length, take, drop, replicate, slice_set, refl, sym, ap, arith, add-one, length-append}
+use Rattle.std.proofs.Common.{◌≡◌, ℕ, zero, suc, ◌+◌, ◌-◌, ◌<◌, ◌≤◌, List, [], ◌∷◌, ◌++◌, Err, length, take, drop, replicate, slice_set, refl, ap, arith, add-one, length-append}
 use lib.ListN.{length-take}
 use Rattle.answer.specs.declared.Refusal.{Refusal}
 use Rattle.sheet.proofs.AcceptedGame.{accepted}
@@ -8,20 +8,20 @@ use Rattle.memo.specs.declared.Kept.{Kept}
 use Rattle.turns.specs.declared.Play.{Play}
 use Rattle.turns.specs.Plays.{actions_from}
 use Rattle.solver.specs.declared.task.Task.{Task}
-use Rattle.solver.specs.Tasks.{solved, actions_in, actions_at, told_of}
+use Rattle.solver.specs.Tasks.{solved, actions_in, actions_at, Answered}
 
 -- what a node's answer at the greatest depth says of its actions
-pub actions_solved : (t : Task) (e : ℕ) (kept : Kept Play) → Ok (told_of t kept.answer) ≡ solved t 64 e → actions_at t e ≡ actions_from (actions_at t) kept.answer.first
+pub actions_solved : (t : Task) (e : ℕ) (kept : Kept Play) → Answered t 64 e kept → actions_at t e ≡ actions_from (actions_at t) kept.answer.first
 unfolding actions_at
-actions_solved t e kept h = ap actions_in (sym h)
+actions_solved t e kept a = ap actions_in (a.is_right.right 64 a.low)
 
-pub actions_refused : (t : Task) (e : ℕ) (r : Refusal) → Err r ≡ solved t 64 e → actions_at t e ≡ []
+pub actions_refused : (t : Task) (e : ℕ) (r : Refusal) → solved t 64 e ≡ Err r → actions_at t e ≡ []
 unfolding actions_at
-actions_refused t e r h = ap actions_in (sym h)
+actions_refused t e r h = ap actions_in h
 
 -- with a depth of at most 64 an answer has at most 64 actions
-pub few_actions : (t : Task) (depth e : ℕ) (play : Play) → depth ≤ 64 → Ok (told_of t play) ≡ solved t depth e → length (actions_from (actions_at t) play.first) ≤ 64
-few_actions t depth e play low h = let few = (solve_sized t.method _ (accepted _ t.links.lookup.noted.opens) depth e _ (sym h)).actions in omega arith
+pub few_actions : (t : Task) (depth e : ℕ) (kept : Kept Play) → depth ≤ 64 → Answered t depth e kept → length (actions_from (actions_at t) kept.answer.first) ≤ 64
+few_actions t depth e kept low a = let few = (solve_sized t.method _ (accepted _ t.links.lookup.noted.opens) depth e _ (a.is_right.right depth a.low)).actions in omega arith
 
 pub ruleset plays = (actions_solved, actions_refused)
 

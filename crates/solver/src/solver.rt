@@ -1,10 +1,10 @@
 //! The solve of a node by what it is: a decision solves its replies and a chance node its outcomes, and the remaining depth falls.
-ghost use Rattle.std.specs.Prelude.{◌≡◌, ℕ, ◌+◌, ◌<◌, ◌≤◌, Err, Some, IfOk, IfSome, IfNone, length};
+ghost use Rattle.std.specs.Prelude.{◌≡◌, ℕ, ◌+◌, ◌<◌, ◌≤◌, true, false, Err, Some, IfOk, IfErr, length, slice_get, slice_set};
 ghost use Rattle.layout.specs.Layout.{row_count, field};
 ghost use Rattle.layout.specs.declared.section.Section.TheVariants.{Nodes};
 ghost use Rattle.game.specs.declared.Kind.TheVariants as Kinds;
 ghost use Rattle.sheet.specs.Found.{NodeAt};
-ghost use Rattle.memo.specs.Kept.{IsUnknown, IsMemo, IsRight};
+ghost use Rattle.memo.specs.Kept.{IsUnknown, IsKept, IsMemo, IsRight};
 ghost use Rattle.turns.specs.Plays.{actions_from};
 ghost use Rattle.solver.specs.Tasks.{bytes_of, solved, told_of, actions_at, Answered, solution_in};
 ghost use Rattle.solver.specs.Kinds.{GoesBy};
@@ -14,7 +14,7 @@ use crate::solution::{Labels, Solution};
 use crate::task::Task;
 use answer::Refusal;
 use backward_induction::Method;
-use game::{ActionEdge, Kind};
+use game::{ActionEdge, ChanceOutcome, Kind};
 use memo::Kept;
 use turns::{Payoffs, Play, Reply, better};
 
@@ -28,13 +28,13 @@ pub struct Solver<'a> {
 }
 
 impl<'a> Solver<'a> {
-    /// The answer of a node with so much depth left. The stack that it takes grows with the depth.
+    /// The row that keeps the answer of a node, which holds with so much depth left. The stack that it takes grows with the depth.
     #[cycle(solve)]
     #[tactic(auto, using(crate::proofs::KindLaws::steps))]
-    pub fn solve_node(&mut self, entity: u32, left: usize) -> Result<Kept<Play>, Refusal>
+    pub fn solve_node(&mut self, entity: u32, left: usize) -> Result<usize, Refusal>
         requires { left ≤ 64 }
-        ensures kept { IfOk result (Answered self.old.task.now left entity) }
-        ensures answer { solution_in self.old.task.now result ≡ solved self.old.task.now left entity }
+        ensures kept { IfOk result (IsKept self.new.memo.now (Answered self.old.task.now left entity)) }
+        ensures refused { IfErr result (λ r. solved self.old.task.now left entity ≡ Err r) }
         ensures same_task { self.new.task ≡ self.old.task }
     {
         if left == 0 {
@@ -42,29 +42,39 @@ impl<'a> Solver<'a> {
         }
         let task = self.task;
         let row = task.row_of(entity).ok_or(Refusal::MissingNode { entity })?;
-        if let Some(kept) = self.known(row, left) {
-            return Ok(*kept);
+        if self.is_known(row, left) {
+            return Ok(row);
         }
         let kind = task.kind_in(row);
         let kept = self.solve_kind(entity, row, kind, left - 1)?;
         self.keep(row, kept);
-        Ok(kept)
+        Ok(row)
     }
 
-    /// What is kept of the node of a row, where it holds with so much depth left.
-    fn known(&self, row: usize, left: usize) -> Option<&Kept<Play>>
+    /// Whether a row keeps an answer of its node that holds with so much depth left.
+    fn is_known(&self, row: usize, left: usize) -> bool
         requires { row < row_count (bytes_of self.now.task.now) Nodes }
-        ensures unknown { IfNone result (IsUnknown self.now.memo.now row left) }
-        ensures known { IfSome result (λ kept. Answered self.now.task.now left (field (bytes_of self.now.task.now) Nodes row 0) kept.now) }
+        ensures known { result ≡ true → IsKept self.now.memo.now (Answered self.now.task.now left (field (bytes_of self.now.task.now) Nodes row 0)) row }
+        ensures unknown { result ≡ false → IsUnknown self.now.memo.now row left }
     {
-        memo::known(self.memo, row, left)
+        memo::known(self.memo, row, left).is_some()
+    }
+
+    /// What a row keeps.
+    pub fn kept(&self, row: usize) -> &Kept<Play>
+        requires { IsKept self.now.memo.now (λ _. Unit) row }
+        ensures { slice_get self.now.memo.now row ≡ Some (Some result.now) }
+    {
+        memo::get(self.memo, row)
     }
 
     /// Keeps the answer of the node of a row.
     fn keep(&mut self, row: usize, kept: Kept<Play>)
         requires within { row < row_count (bytes_of self.old.task.now) Nodes }
         requires right { IsRight (solved self.old.task.now) (told_of self.old.task.now) (field (bytes_of self.old.task.now) Nodes row 0) kept }
-        ensures { self.new.task ≡ self.old.task }
+        ensures here { slice_get self.new.memo.now row ≡ Some (Some kept) }
+        ensures others { self.new.memo.now ≡ slice_set self.old.memo.now row (Some kept) }
+        ensures same_task { self.new.task ≡ self.old.task }
     {
         memo::keep(self.memo, row, kept);
     }
@@ -135,11 +145,9 @@ impl<'a> Solver<'a> {
         let task = self.task;
         let mut lead = None;
         let mut deepest = 0;
-        for child in task.replies(entity, row)? {
-            let Some(edge) = task.action_in(entity, child) else {
-                continue;
-            };
-            let kept = self.solve_node(edge.target, left)?;
+        for edge in task.edges::<ActionEdge>(entity, row)? {
+            let at = self.solve_node(edge.target, left)?;
+            let kept = self.kept(at);
             let reply = Reply::new(edge, kept.answer, player)?;
             lead = Some(better(lead, reply));
             deepest = deepest.max(kept.height);
@@ -167,11 +175,9 @@ impl<'a> Solver<'a> {
         }
         let mut sums = None;
         let mut deepest = 0;
-        for child in task.outcomes(entity, row)? {
-            let Some(outcome) = task.outcome_in(entity, child) else {
-                continue;
-            };
-            let kept = self.solve_node(outcome.target, left)?;
+        for outcome in task.edges::<ChanceOutcome>(entity, row)? {
+            let at = self.solve_node(outcome.target, left)?;
+            let kept = self.kept(at);
             let payoffs = kept.answer.payoffs;
             sums = Some(Payoffs::added(entity, sums, outcome.probability, payoffs)?);
             deepest = deepest.max(kept.height);
@@ -198,7 +204,7 @@ impl<'a> Solver<'a> {
         ensures same_task { self.new.task ≡ self.old.task }
     {
         match self.solve_node(entity, 64) {
-            Ok(kept) => kept.answer.first,
+            Ok(row) => self.kept(row).answer.first,
             Err(_) => None,
         }
     }

@@ -1,23 +1,19 @@
 //! What a solve is asked of a sheet: the method, and the sheet with its rows noted and its children linked.
-ghost use Rattle.std.specs.Prelude.{◌≡◌, ◌<◌, Ok, IfOk, IfSome, option_map};
-ghost use Rattle.answer.specs.Checks.{checked};
+ghost use Rattle.std.specs.Prelude.{◌≡◌, ◌<◌, IfSome, option_map};
 ghost use Rattle.rows.specs.Store.{rows_from};
 ghost use Rattle.layout.specs.Layout.{row_count};
-ghost use Rattle.layout.specs.declared.section.Section.TheVariants.{Nodes, Children};
-ghost use Rattle.child_rows.specs.Links.{first_child};
-ghost use Rattle.game.specs.Game.{kind_of, chance_in};
-ghost use Rattle.game.specs.Edges.{outgoing_action_edges, outgoing_chance_outcomes};
+ghost use Rattle.layout.specs.declared.section.Section.TheVariants.{Nodes};
+ghost use Rattle.game.specs.Game.{kind_of};
 ghost use Rattle.sheet.specs.Meaning.{node_row, payoff_row, game_of};
 ghost use Rattle.sheet.specs.Found.{NodeAt, InSheet};
-ghost use Rattle.turns.specs.Payoffs.{payoffs_of, map_ok};
-ghost use Rattle.solver.specs.Links.{rows_along};
-ghost use Rattle.solver.specs.Given.{given_by, AreSound, action_at, outcome_at};
+ghost use Rattle.edges.specs.Kinds.{edges_out};
+ghost use Rattle.turns.specs.Payoffs.{payoffs_of};
 
-use crate::children::ChildRows;
 use answer::Refusal;
 use backward_induction::Method;
 use child_rows::ChildLinks;
-use game::{ActionEdge, ChanceOutcome, Kind};
+use edges::{Edge, Edges};
+use game::Kind;
 use layout::Section;
 use sheet::Terminal;
 use turns::Payoffs;
@@ -49,59 +45,12 @@ impl<'a> Task<'a> {
         sheet::sheet_of(self.links.lookup).node(row).kind
     }
 
-    /// The child rows of a node, in its row.
-    fn children(&self, entity: u32, row: usize) -> ChildRows<'a>
+    /// The edges of a kind out of the node of a row, or the first fault among them.
+    pub fn edges<E: Edge>(&self, entity: u32, row: usize) -> Result<Edges<'a, E>, Refusal>
         requires { NodeAt (bytes_of self.now) row entity }
-        ensures { result ≡ rows_along (bytes_of self.now) self.now.links.links.now (first_child self.now.links.links.now row) }
+        ensures { result ≡ edges_out E.found E.target_of (bytes_of self.now) entity }
     {
-        let count = self.links.lookup.sections().row_count(Section::Children);
-        let row = self.links.first_child(row);
-        ChildRows {
-            links: self.links,
-            parent: entity,
-            count,
-            row,
-        }
-    }
-
-    /// The child rows of a node, none of whose action edges has a fault, or the first fault.
-    pub fn replies(&self, entity: u32, row: usize) -> Result<ChildRows<'a>, Refusal>
-        requires { NodeAt (bytes_of self.now) row entity }
-        ensures edges { map_ok (given_by (action_at (bytes_of self.now) entity)) result ≡ outgoing_action_edges (game_of (bytes_of self.now)) entity }
-        ensures sound { IfOk result (AreSound (bytes_of self.now) (action_at (bytes_of self.now) entity)) }
-    {
-        edges::linked_action_edges(self.links, row)?;
-        Ok(self.children(entity, row))
-    }
-
-    /// The child rows of a node, none of whose chance outcomes has a fault, or the first fault.
-    pub fn outcomes(&self, entity: u32, row: usize) -> Result<ChildRows<'a>, Refusal>
-        requires { NodeAt (bytes_of self.now) row entity }
-        ensures edges { map_ok (given_by (outcome_at (bytes_of self.now) entity)) result ≡ outgoing_chance_outcomes (game_of (bytes_of self.now)) entity }
-        ensures sound { IfOk result (AreSound (bytes_of self.now) (outcome_at (bytes_of self.now) entity)) }
-    {
-        edges::linked_chance_outcomes(self.links, row)?;
-        Ok(self.children(entity, row))
-    }
-
-    /// The action edge of a node in a child row, which has no fault.
-    #[tactic(auto, unfolding(crate::specs::Given::action_at))]
-    pub fn action_in(&self, entity: u32, row: usize) -> Option<ActionEdge>
-        requires within { row < row_count (bytes_of self.now) Children }
-        requires sound { checked (action_at (bytes_of self.now) entity row) ≡ Ok tt }
-        ensures { action_at (bytes_of self.now) entity row ≡ Ok result }
-    {
-        edges::sound_action_in(self.links.lookup, entity, row)
-    }
-
-    /// The chance outcome of a node in a child row, which has no fault.
-    #[tactic(auto, unfolding(crate::specs::Given::outcome_at))]
-    pub fn outcome_in(&self, entity: u32, row: usize) -> Option<ChanceOutcome>
-        requires within { row < row_count (bytes_of self.now) Children }
-        requires sound { checked (outcome_at (bytes_of self.now) entity row) ≡ Ok tt }
-        ensures { outcome_at (bytes_of self.now) entity row ≡ Ok (option_map chance_in result) }
-    {
-        edges::sound_chance_in(self.links.lookup, entity, row)
+        edges::outgoing_along(self.links, row)
     }
 
     /// The payoffs of a terminal.

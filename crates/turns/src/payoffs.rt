@@ -1,6 +1,7 @@
 //! The payoffs of an answer, and the weighted sums of a chance node.
 ghost use Rattle.std.specs.Prelude.{◌≡◌, ◌≤◌, ◌-◌, false, Option, option_map, slice_get, map, drop, replicate};
 ghost use mathlib.Core.List.{zip_with};
+ghost use Rattle.answer.specs.Checks.{map_ok};
 ghost use Rattle.number.specs.Number.{plus, finite};
 ghost use Rattle.number.specs.Meaning.{meaning};
 ghost use Rattle.backward_induction.specs.Solve.{products, all_finite};
@@ -18,7 +19,7 @@ pub struct Payoffs {
 }
 
 impl Payoffs {
-    ghost use Rattle.turns.specs.Payoffs.{payoffs_of, map_ok};
+    ghost use Rattle.turns.specs.Payoffs.{payoffs_of};
 
     /// The payoff of a player, where there is one.
     pub fn at(&self, player: usize) -> Option<f64>

@@ -1,4 +1,4 @@
--- The remaining depth falls. The loops' invariants: what the rows that are left make of what is held so far.
+-- The remaining depth falls. The loops' invariants: what the edges that are left make of what is held so far.
 use Rattle.std.proofs.Common.{◌≡◌, ◌+◌, ◌*◌, ◌≤◌}
 use Rattle.solver.specs.Loops.{Deciding, Weighing}
 use Rattle.solver.proofs.solver.Solver.+solve.Given as goal
@@ -15,18 +15,18 @@ decreases-solve_decision l = 3 * l.left + 1
 abbrev pub decreases-solve_chance : goal.decreases-solve_chance
 decreases-solve_chance l = 3 * l.left + 1
 
-abbrev pub invariant-solve_decision-loop-child : goal.invariant-solve_decision-loop-child
-invariant-solve_decision-loop-child l =
+abbrev pub invariant-solve_decision-loop-edge : goal.invariant-solve_decision-loop-edge
+invariant-solve_decision-loop-edge l =
     record {
       same_task : l.self.task ≡ l.fn.self.task;
       low : l.deepest ≤ l.left;
-      deciding : Deciding l.fn.self.task.now l.entity l.player l.deepest l.lead l.child-iterator;
+      deciding : Deciding l.fn.self.task.now l.entity l.player l.deepest l.lead l.edge-iterator;
     }
 
-abbrev pub invariant-solve_chance-loop-child : goal.invariant-solve_chance-loop-child
-invariant-solve_chance-loop-child l =
+abbrev pub invariant-solve_chance-loop-outcome : goal.invariant-solve_chance-loop-outcome
+invariant-solve_chance-loop-outcome l =
     record {
       same_task : l.self.task ≡ l.fn.self.task;
       low : l.deepest ≤ l.left;
-      weighing : Weighing l.fn.self.task.now l.entity l.deepest l.sums l.child-iterator;
+      weighing : Weighing l.fn.self.task.now l.entity l.deepest l.sums l.outcome-iterator;
     }

@@ -4,8 +4,9 @@ use Rattle.std.proofs.lemmas.Result.{err_from_is_err_and}
 use Rattle.std.specs.Result.{result_ok}
 use Rattle.sheet.specs.Found.{terminal_in}
 use Rattle.solver.specs.Tasks.{bytes_of, solved, told_of}
+use Rattle.memo.proofs.KeptLaws.{answers}
 use Rattle.solver.proofs.LoopLaws.{same_refusal}
-use Rattle.solver.proofs.KindLaws.{answers, terminal_missing, terminal_found}
+use Rattle.solver.proofs.KindLaws.{terminal_missing, terminal_found}
 use Rattle.solver.proofs.solver.Solver.solve_terminal.Goals as goal
 use Rattle.solver.proofs.solver.Solver.solve_terminal.Goals.{After-payoffs-payoffs}
 
@@ -24,7 +25,7 @@ worth c left =
     rw c.payoffs-payoffs.ensures (terminal_found t c.args.entity c.requires _ (sym c.terminal_of.ensures.terminal ∙ ap (option_map (terminal_in (bytes_of t))) some) left)
 
 pub returns-clause-kept : goal.returns-clause-kept
-returns-clause-kept c = (answers _ _ 0 0 _ (omega arith) (λ d h. worth c d)).is_right
+returns-clause-kept c = (answers _ _ _ 0 0 _ (omega arith) (λ d h. worth c d)).is_right
 
 pub returns-clause-answer : goal.returns-clause-answer
 returns-clause-answer c = λ left. sym (worth c left)
