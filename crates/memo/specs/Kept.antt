@@ -6,6 +6,10 @@ use Rattle.memo.specs.declared.Kept.{Kept}
 pub record IsUnknown {A : Type 0} (rows : List (Option (Kept A))) (row left : ℕ) : Type 0 where
   pub unknown : (kept : Kept A) → slice_get rows row ≡ Some (Some kept) → left < kept.height
 
+-- each row that keeps an answer still keeps one
+pub record Stays {A : Type 0} (rows rows' : List (Option (Kept A))) : Type 0 where
+  pub stays : (i : ℕ) (kept : Kept A) → slice_get rows i ≡ Some (Some kept) → (kept' : Kept A) × (slice_get rows' i ≡ Some (Some kept'))
+
 -- a row keeps an answer of which this holds
 pub record IsKept {A : Type 0} (rows : List (Option (Kept A))) (holds : Kept A → Type 0) (row : ℕ) : Type 0 where
   pub kept : Kept A

@@ -4,7 +4,7 @@ ghost use Rattle.layout.specs.Layout.{row_count, field};
 ghost use Rattle.layout.specs.declared.section.Section.TheVariants.{Nodes};
 ghost use Rattle.game.specs.declared.Kind.TheVariants as Kinds;
 ghost use Rattle.sheet.specs.Found.{NodeAt};
-ghost use Rattle.memo.specs.Kept.{IsUnknown, IsKept, IsMemo, IsRight};
+ghost use Rattle.memo.specs.Kept.{IsUnknown, IsKept, IsMemo, IsRight, Stays};
 ghost use Rattle.turns.specs.Plays.{actions_from};
 ghost use Rattle.solver.specs.Tasks.{bytes_of, solved, told_of, actions_at, Answered, solution_in};
 ghost use Rattle.solver.specs.Kinds.{GoesBy};
@@ -30,11 +30,12 @@ pub struct Solver<'a> {
 impl<'a> Solver<'a> {
     /// The row that keeps the answer of a node, which holds with so much depth left. The stack that it takes grows with the depth.
     #[cycle(solve)]
-    #[tactic(auto, using(crate::proofs::KindLaws::steps))]
+    #[tactic(auto, using(crate::proofs::KindLaws::steps, memo::proofs::KeptLaws::staying))]
     pub fn solve_node(&mut self, entity: u32, left: usize) -> Result<usize, Refusal>
         requires { left ≤ 64 }
         ensures kept { IfOk result (IsKept self.new.memo.now (Answered self.old.task.now left entity)) }
         ensures refused { IfErr result (λ r. solved self.old.task.now left entity ≡ Err r) }
+        ensures stays { Stays self.old.memo.now self.new.memo.now }
         ensures same_task { self.new.task ≡ self.old.task }
     {
         if left == 0 {
@@ -81,6 +82,7 @@ impl<'a> Solver<'a> {
 
     /// The answer of a node that is not known yet.
     #[cycle(solve)]
+    #[tactic(auto, using(memo::proofs::KeptLaws::staying))]
     fn solve_kind(
         &mut self,
         entity: u32,
@@ -94,6 +96,7 @@ impl<'a> Solver<'a> {
         requires low { left < 64 }
         ensures kept { IfOk result (Answered self.old.task.now (left + 1) entity) }
         ensures answer { solution_in self.old.task.now result ≡ solved self.old.task.now (left + 1) entity }
+        ensures stays { Stays self.old.memo.now self.new.memo.now }
         ensures same_task { self.new.task ≡ self.old.task }
     {
         match kind {
@@ -128,6 +131,7 @@ impl<'a> Solver<'a> {
 
     /// A decision takes the best of its replies for the player.
     #[cycle(solve)]
+    #[tactic(auto, using(memo::proofs::KeptLaws::staying))]
     fn solve_decision(
         &mut self,
         entity: u32,
@@ -140,6 +144,7 @@ impl<'a> Solver<'a> {
         requires low { left < 64 }
         ensures kept { IfOk result (Answered self.old.task.now (left + 1) entity) }
         ensures answer { solution_in self.old.task.now result ≡ solved self.old.task.now (left + 1) entity }
+        ensures stays { Stays self.old.memo.now self.new.memo.now }
         ensures same_task { self.new.task ≡ self.old.task }
     {
         let task = self.task;
@@ -161,12 +166,14 @@ impl<'a> Solver<'a> {
 
     /// A chance node is worth the weighted sums of its outcomes; the plain method refuses it.
     #[cycle(solve)]
+    #[tactic(auto, using(memo::proofs::KeptLaws::staying))]
     fn solve_chance(&mut self, entity: u32, row: usize, left: usize) -> Result<Kept<Play>, Refusal>
         requires node { NodeAt (bytes_of self.old.task.now) row entity }
         requires kind { GoesBy self.old.task.now entity Kinds.Chance }
         requires low { left < 64 }
         ensures kept { IfOk result (Answered self.old.task.now (left + 1) entity) }
         ensures answer { solution_in self.old.task.now result ≡ solved self.old.task.now (left + 1) entity }
+        ensures stays { Stays self.old.memo.now self.new.memo.now }
         ensures same_task { self.new.task ≡ self.old.task }
     {
         let task = self.task;

@@ -2,6 +2,7 @@
 -- counts so far make the node's counts.
 use Rattle.std.proofs.Common.{◌≡◌, ℕ, ◌+◌, ◌*◌, ◌≤◌}
 use Rattle.sheet.specs.Meaning.{game_of}
+use Rattle.memo.specs.Kept.{Stays}
 use Rattle.path_counts.specs.Counts.{counts_at, counts_from, counts_by_edges}
 use Rattle.path_counts.proofs.Counter.+count.Given as goal
 
@@ -22,6 +23,7 @@ invariant-count_edges-loop-edge l =
     let g = game_of l.fn.self.lookup.sheet.now in
     record {
       same_sheet : l.self.lookup.sheet ≡ l.fn.self.lookup.sheet;
+      stays : Stays l.fn.self.memo.now l.self.memo.now;
       low : l.deepest ≤ l.left;
       left : (d : ℕ) → l.deepest ≤ d → counts_by_edges g (counts_at g d) l.entity ≡ counts_from (counts_at g d) l.entity l.total l.edge-iterator;
     }

@@ -2,7 +2,7 @@
 use Rattle.std.proofs.Common.{◌≡◌, ◌+◌, ◌-◌, refl, sym, ◌∙◌, ap, arith, Ok, None}
 use Rattle.std.proofs.lemmas.Result.{err_from_is_err_and}
 use Rattle.std.specs.Result.{result_ok}
-use Rattle.memo.proofs.KeptLaws.{answers, kept_is}
+use Rattle.memo.proofs.KeptLaws.{answers, kept_is, stays_same, stays_then}
 use Rattle.solver.specs.Tasks.{actions_at}
 use Rattle.solver.proofs.KindLaws.{decision_refused, decision_starts, chance_plain, chance_refused, chance_starts, out_of_range, all_in_range}
 use Rattle.solver.proofs.LoopLaws.{deeper, same_refusal, no_reply, best_reply, target_refused, reply_refused, reply_goes, play_taken, no_outcome, all_outcomes, outcome_refused, counts_differ, outcome_goes}
@@ -31,6 +31,7 @@ pub solve_decision-loop-edge-init : goal.solve_decision-loop-edge-init
 solve_decision-loop-edge-init t c =
     record {
       same_task = refl;
+      stays = stays_same _;
       low = omega arith;
       deciding = rw c.into_iter-edge-iterator.ensures.into_iter_gives (decision_starts _ _ _ c.requires.kind _ c.in_ok-edge-items.ensures);
     }
@@ -60,6 +61,7 @@ solve_decision-loop-edge-preserved t c =
     let deep = deeper c.loop-edge.deepest c.kept-kept.result.now.height c.max-deepest.result c.max-deepest.ensures in
     record {
       same_task = c.solve_node.ensures.same_task ∙ c.loop-edge.invariant.same_task;
+      stays = stays_then _ _ _ c.loop-edge.invariant.stays c.solve_node.ensures.stays;
       low = omega arith;
       deciding = rw (deep, c.better.ensures) (reply_goes _ _ _ _ _ _ _ on _ _ answered (omega arith) _
           (c.in_ok-reply.ensures.answer (actions_at c.args.self.now.task.now)) c.in_ok-reply.ensures.edge c.in_ok-reply.ensures.play);
@@ -98,6 +100,7 @@ pub solve_chance-loop-outcome-init : goal.solve_chance-loop-outcome-init
 solve_chance-loop-outcome-init t c =
     record {
       same_task = refl;
+      stays = stays_same _;
       low = omega arith;
       weighing = rw c.into_iter-outcome-iterator.ensures.into_iter_gives (chance_starts _ _ c.requires.kind c.in_default.is _ c.in_ok-outcome-items.ensures);
     }
@@ -125,6 +128,7 @@ solve_chance-loop-outcome-preserved t c =
     let deep = deeper c.loop-outcome.deepest c.kept-kept.result.now.height c.max-deepest.result c.max-deepest.ensures in
     record {
       same_task = c.solve_node.ensures.same_task ∙ c.loop-outcome.invariant.same_task;
+      stays = stays_then _ _ _ c.loop-outcome.invariant.stays c.solve_node.ensures.stays;
       low = omega arith;
       weighing = rw deep (outcome_goes _ _ _ _ _ _ on _ _ answered _ c.in_ok-added.ensures);
     }

@@ -1,5 +1,6 @@
 -- The remaining depth falls. The loops' invariants: what the edges that are left make of what is held so far.
 use Rattle.std.proofs.Common.{◌≡◌, ◌+◌, ◌*◌, ◌≤◌}
+use Rattle.memo.specs.Kept.{Stays}
 use Rattle.solver.specs.Loops.{Deciding, Weighing}
 use Rattle.solver.proofs.solver.Solver.+solve.Given as goal
 
@@ -19,6 +20,7 @@ abbrev pub invariant-solve_decision-loop-edge : goal.invariant-solve_decision-lo
 invariant-solve_decision-loop-edge l =
     record {
       same_task : l.self.task ≡ l.fn.self.task;
+      stays : Stays l.fn.self.memo.now l.self.memo.now;
       low : l.deepest ≤ l.left;
       deciding : Deciding l.fn.self.task.now l.entity l.player l.deepest l.lead l.edge-iterator;
     }
@@ -27,6 +29,7 @@ abbrev pub invariant-solve_chance-loop-outcome : goal.invariant-solve_chance-loo
 invariant-solve_chance-loop-outcome l =
     record {
       same_task : l.self.task ≡ l.fn.self.task;
+      stays : Stays l.fn.self.memo.now l.self.memo.now;
       low : l.deepest ≤ l.left;
       weighing : Weighing l.fn.self.task.now l.entity l.deepest l.sums l.outcome-iterator;
     }
