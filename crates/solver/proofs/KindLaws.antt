@@ -14,7 +14,6 @@ use Rattle.game.specs.declared.ActionEdge.{ActionEdge}
 use Rattle.game.specs.Game.{Game, TerminalUtility, kind_of, action_of, chance_of, terminal_of}
 use Rattle.game.specs.Edges.{outgoing_action_edges, outgoing_chance_outcomes}
 use Rattle.sheet.specs.Meaning.{node_row, game_of}
-use Rattle.sheet.specs.Found.{NodeAt}
 use Rattle.sheet.proofs.NodeRows.{node_at, node_missing, found_row}
 use Rattle.backward_induction.specs.declared.Method.{Method}
 use Rattle.backward_induction.specs.declared.Method.TheVariants as Methods

@@ -6,6 +6,7 @@ ghost use Rattle.number.specs.Meaning.{meaning};
 use turns::Payoffs;
 
 /// The labels of a play's actions, first to last: the first `count` of the numbers, and 0 after them.
+// A count beside the numbers, as the C struct has them.
 #[derive(Clone, Copy)]
 pub struct Labels {
     pub count: usize,

@@ -123,10 +123,7 @@ impl<'a> Solver<'a> {
             first: None,
             payoffs,
         };
-        Ok(Kept {
-            height: 1,
-            answer: play,
-        })
+        Ok(Kept::over(0, play))
     }
 
     /// A decision takes the best of its replies for the player.
@@ -158,10 +155,7 @@ impl<'a> Solver<'a> {
             deepest = deepest.max(kept.height);
         }
         let best = lead.ok_or(Refusal::NoOutgoingActions { entity })?;
-        Ok(Kept {
-            height: deepest + 1,
-            answer: best.taken(),
-        })
+        Ok(Kept::over(deepest, best.taken()))
     }
 
     /// A chance node is worth the weighted sums of its outcomes; the plain method refuses it.
@@ -198,10 +192,7 @@ impl<'a> Solver<'a> {
             first: None,
             payoffs,
         };
-        Ok(Kept {
-            height: deepest + 1,
-            answer: play,
-        })
+        Ok(Kept::over(deepest, play))
     }
 
     /// The edge that the play from a node begins with, where there is one.
@@ -225,6 +216,7 @@ impl<'a> Solver<'a> {
         let mut numbers = [0u32; 64];
         let mut count = 0;
         let mut next = first;
+        // a play is no list: its next edge is found from the last one's target, so its labels are counted as they are written
         while let Some(edge) = next {
             numbers[count] = edge.label;
             count += 1;

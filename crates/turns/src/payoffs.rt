@@ -11,6 +11,7 @@ use answer::Refusal;
 use number::Weighted;
 
 /// The payoffs of the players from 0 on: the first `count` of the values. Those of a sum may be out of range.
+// A count beside the values, since all eight are weighed and added at once.
 #[derive(Clone, Copy)]
 pub struct Payoffs {
     pub count: usize,

@@ -5,4 +5,4 @@ use Rattle.memo.proofs.KeptLaws.{answers}
 use Rattle.path_counts.proofs.Counter.+count.Goals as goal
 
 pub count_edges-returns-clause-kept : goal.count_edges-returns-clause-kept
-count_edges-returns-clause-kept t c = answers _ _ _ _ _ _ c.loop-edge.invariant.low (λ d h. c.requires.edges.step d ∙ grind (arith, common_steps, c.loop-edge.invariant.left d h))
+count_edges-returns-clause-kept t c = rw c.over.ensures (answers _ _ _ _ _ _ c.loop-edge.invariant.low (λ d h. c.requires.edges.step d ∙ grind (arith, common_steps, c.loop-edge.invariant.left d h)))

@@ -79,13 +79,13 @@ pub solve_decision-returns-clause-kept : goal.solve_decision-returns-clause-kept
 solve_decision-returns-clause-kept t c =
     let on = rw (c.in-None.ensures.steps.0, c.ok_or.ensures.ok_part ∙ ap result_ok c.in_ok-best.was) at c.loop-edge.invariant.deciding in
     let told = play_taken _ _ c.taken.result on.lead_is c.taken.ensures.terminal c.taken.ensures.first c.taken.ensures.payoffs in
-    answers _ _ _ _ _ c.taken.result c.loop-edge.invariant.low (λ d h. best_reply _ _ _ _ None _ on d h ∙ ap Ok (sym told))
+    rw c.over.ensures (answers _ _ _ _ _ c.taken.result c.loop-edge.invariant.low (λ d h. best_reply _ _ _ _ None _ on d h ∙ ap Ok (sym told)))
 
 pub solve_decision-returns-clause-answer : goal.solve_decision-returns-clause-answer
 solve_decision-returns-clause-answer t c =
     let on = rw (c.in-None.ensures.steps.0, c.ok_or.ensures.ok_part ∙ ap result_ok c.in_ok-best.was) at c.loop-edge.invariant.deciding in
     let told = play_taken _ _ c.taken.result on.lead_is c.taken.ensures.terminal c.taken.ensures.first c.taken.ensures.payoffs in
-    sym (best_reply _ _ _ _ None _ on _ c.loop-edge.invariant.low ∙ ap Ok (sym told))
+    rw c.over.ensures (sym (best_reply _ _ _ _ None _ on _ c.loop-edge.invariant.low ∙ ap Ok (sym told)))
 
 -- ---- a chance node
 pub solve_chance-returns-in-Plain-clause-answer : goal.solve_chance-returns-in-Plain-clause-answer
@@ -149,9 +149,9 @@ solve_chance-returns-then-not-is_in_range-clause-answer t c =
 pub solve_chance-returns-clause-kept : goal.solve_chance-returns-clause-kept
 solve_chance-returns-clause-kept t c =
     let on = rw (c.in-None.ensures.steps.0, c.ok_or.ensures.ok_part ∙ ap result_ok c.in_ok-payoffs.was) at c.loop-outcome.invariant.weighing in
-    answers _ _ _ _ _ _ c.loop-outcome.invariant.low (λ d h. all_outcomes _ _ _ None _ on d h ∙ all_in_range c.args.self.now.task.now _ _ (sym c.if-not-is_in_range.false ∙ c.is_in_range.ensures))
+    rw c.over.ensures (answers _ _ _ _ _ _ c.loop-outcome.invariant.low (λ d h. all_outcomes _ _ _ None _ on d h ∙ all_in_range c.args.self.now.task.now _ _ (sym c.if-not-is_in_range.false ∙ c.is_in_range.ensures)))
 
 pub solve_chance-returns-clause-answer : goal.solve_chance-returns-clause-answer
 solve_chance-returns-clause-answer t c =
     let on = rw (c.in-None.ensures.steps.0, c.ok_or.ensures.ok_part ∙ ap result_ok c.in_ok-payoffs.was) at c.loop-outcome.invariant.weighing in
-    sym (all_outcomes _ _ _ None _ on _ c.loop-outcome.invariant.low ∙ all_in_range c.args.self.now.task.now _ _ (sym c.if-not-is_in_range.false ∙ c.is_in_range.ensures))
+    rw c.over.ensures (sym (all_outcomes _ _ _ None _ on _ c.loop-outcome.invariant.low ∙ all_in_range c.args.self.now.task.now _ _ (sym c.if-not-is_in_range.false ∙ c.is_in_range.ensures)))

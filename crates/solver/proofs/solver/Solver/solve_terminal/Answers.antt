@@ -17,7 +17,7 @@ returns-in_err-terminal-clause-answer c =
     let missing = rw none at (sym c.ok_or.ensures.value ∙ c.in_err-terminal.was) in
     λ left. rw (p.1, p.2) (sym (terminal_missing _ _ c.requires (rw none at (sym c.terminal_of.ensures.terminal)) left ∙ same_refusal _ _ missing))
 
-worth : (c : goal.After-payoffs-payoffs) (left : ℕ)
+worth : (c : goal.After-over) (left : ℕ)
     → solved c.args.self.now.task.now (left + 1) c.args.entity ≡ Ok (told_of c.args.self.now.task.now (record { terminal = Some c.args.entity; first = None; payoffs = c.payoffs-payoffs.result }))
 worth c left =
     let t = c.args.self.now.task.now in
@@ -25,7 +25,7 @@ worth c left =
     rw c.payoffs-payoffs.ensures (terminal_found t c.args.entity c.requires _ (sym c.terminal_of.ensures.terminal ∙ ap (option_map (terminal_in (bytes_of t))) some) left)
 
 pub returns-clause-kept : goal.returns-clause-kept
-returns-clause-kept c = (answers _ _ _ 0 0 _ (omega arith) (λ d h. worth c d)).is_right
+returns-clause-kept c = rw c.over.ensures (answers _ _ _ 0 0 _ (omega arith) (λ d h. worth c d)).is_right
 
 pub returns-clause-answer : goal.returns-clause-answer
-returns-clause-answer c = λ left. sym (worth c left)
+returns-clause-answer c = λ left. rw c.over.ensures (sym (worth c left))
