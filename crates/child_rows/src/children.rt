@@ -1,11 +1,11 @@
 //! The children of a parent, one after the other in child-row order.
-ghost use Rattle.std.specs.Prelude.{◌≡◌, ◌+◌, ◌*◌, ◌<◌, [], ◌∷◌, IfSome, IfNone, option_map, length};
+ghost use Rattle.std.specs.Prelude.{◌≡◌, ◌+◌, ◌<◌, [], ◌∷◌, None, Some, IfSome, IfNone, option_map};
 ghost use Rattle.std.specs.Iterator.{YieldsFirst, item_count};
 ghost use Rattle.layout.specs.declared.section.Section.TheVariants.{Nodes};
 ghost use Rattle.layout.specs.Layout.{row_count, field};
 ghost use Rattle.graph_relations.specs.Relations.{children_of};
 ghost use Rattle.graph_relations.specs.RelationRows.{child_rows};
-ghost use Rattle.child_rows.specs.Children.{children_left, row_after, IsOn};
+ghost use Rattle.child_rows.specs.Children.{children_left, IsOn};
 
 use crate::{ChildLinks, next_child};
 use layout::{Section, Sections};
@@ -32,19 +32,52 @@ impl<'a> Model for ChildrenOf<'a> {
     ghost invariant = { λ c. IsOn c.sections.bytes.now (option_map (λ l. l.now) c.links) c.parent c.count c.row };
 }
 
-fn row_after(links: Option<&[u32]>, row: usize) -> usize
-    requires small { row < 65536 }
-    requires room { IfSome links (λ l. 2 * row + 1 < length l.now) }
-    ensures { result ≡ row_after (option_map (λ l. l.now) links.entry) row }
+/// The first child that a child row from one on gives, and that row, where each row is looked at.
+// Not inlined: among a caller's loops its own goes through the rows more slowly.
+#[inline(never)]
+#[tactic(auto, using(crate::proofs::ChildrenLaws::child_steps))]
+fn child_by_row(sections: Sections, parent: u32, from: usize, count: usize) -> Option<(u32, usize)>
+    requires { IsOn sections.bytes.now None parent count from }
+    ensures child { IfSome result (λ p. children_left sections.entry.bytes.now parent from ≡ p.0 ∷ children_left sections.entry.bytes.now parent (p.1 + 1)) }
+    ensures on { IfSome result (λ p. IsOn sections.entry.bytes.now None parent count (p.1 + 1)) }
+    ensures few { IfSome result (λ p. p.1 < count) }
+    ensures none { IfNone result (children_left sections.entry.bytes.now parent from ≡ []) }
 {
-    match links {
-        Some(links) => next_child(links, row),
-        None => row + 1,
+    for i in from..count {
+        if let Some(child) = graph_relations::children_of(sections, parent, i) {
+            return Some((child, i));
+        }
     }
+    None
 }
 
-/// The first child that a child row from one on gives, and the row after it.
+/// The first child that a child row from one on gives, and the row after it, along the links.
 #[tactic(auto, using(crate::proofs::ChildrenLaws::child_steps))]
+fn child_along(
+    sections: Sections,
+    links: &[u32],
+    parent: u32,
+    from: usize,
+    count: usize,
+) -> Option<(u32, usize)>
+    requires { IsOn sections.bytes.now (Some links.now) parent count from }
+    ensures child { IfSome result (λ p. children_left sections.entry.bytes.now parent from ≡ p.0 ∷ children_left sections.entry.bytes.now parent p.1) }
+    ensures on { IfSome result (λ p. IsOn sections.entry.bytes.now (Some links.entry.now) parent count p.1) }
+    ensures none { IfNone result (children_left sections.entry.bytes.now parent from ≡ []) }
+{
+    // A walk along links has no range to count through.
+    let mut row = from;
+    while row < count {
+        let next = next_child(links, row);
+        if let Some(child) = graph_relations::children_of(sections, parent, row) {
+            return Some((child, next));
+        }
+        row = next;
+    }
+    None
+}
+
+// The first child that a child row from one on gives, and the row after it.
 fn child_from(
     sections: Sections,
     links: Option<&[u32]>,
@@ -57,16 +90,13 @@ fn child_from(
     ensures on { IfSome result (λ p. IsOn sections.entry.bytes.now (option_map (λ l. l.now) links.entry) parent count p.1) }
     ensures none { IfNone result (children_left sections.entry.bytes.now parent from ≡ []) }
 {
-    // A walk along links has no range to count through.
-    let mut row = from;
-    while row < count {
-        let next = row_after(links, row);
-        if let Some(child) = graph_relations::children_of(sections, parent, row) {
-            return Some((child, next));
+    match links {
+        Some(links) => child_along(sections, links, parent, from, count),
+        None => {
+            let (child, row) = child_by_row(sections, parent, from, count)?;
+            Some((child, row + 1))
         }
-        row = next;
     }
-    None
 }
 
 impl<'a> Iterator for ChildrenOf<'a> {

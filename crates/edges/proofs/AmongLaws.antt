@@ -3,13 +3,16 @@ use Rattle.std.proofs.Common.{◌≡◌, ℕ, List, [], ◌∷◌, Option, None,
 use Rattle.answer.specs.Checks.{◌>>=◌, after, checked, collect}
 use Rattle.answer.specs.declared.Refusal.{Refusal}
 use Rattle.answer.proofs.AnswerLaws.{collect_nil, collect_skip, collect_next, collect_stop, fault_on}
-use Rattle.graph_relations.specs.Relations.{children_of, transition_target}
-use Rattle.graph_relations.specs.RelationRows.{child_rows}
+use Rattle.graph_relations.specs.Relations.{child_in, children_of, transition_target}
+use Rattle.layout.specs.declared.section.Section.TheVariants.{Children}
+use Rattle.layout.specs.Layout.{row_count}
+use Rattle.graph_relations.specs.RelationRows.{child_row, child_rows}
+use Rattle.child_rows.specs.Children.{children_left}
 use Rattle.game.specs.Game.{Game}
-use Rattle.game.specs.Edges.{transition_check, outgoing}
-use Rattle.game.proofs.EdgeLaws.{edge_none, edge_row}
+use Rattle.game.specs.Edges.{transition_check, outgoing, edge_in, collect_from}
+use Rattle.game.proofs.EdgeLaws.{edge_none, edge_row, row_other, row_own, by_rows}
 use Rattle.sheet.specs.Meaning.{game_of}
-use Rattle.edges.specs.Kinds.{found_in, entity_edge, edges_among, edges_out}
+use Rattle.edges.specs.Kinds.{found_in, entity_edge, row_edge, edges_among, edges_out}
 
 module _ {R : Type 0} (found : Game → ℕ → Option R) (target : R → ℕ) (s : List ℕ) where
   pub among_none : edges_among found target s [] ≡ Ok []
@@ -55,6 +58,32 @@ module _ {R : Type 0} (found : Game → ℕ → Option R) (target : R → ℕ) (
         go (Ok ys) h = refl
         go (Err r) h = absurd cc
 
+  -- ---- one entity, and one child row, without a fault
+  sound_entity : (e : ℕ) (o : Option R) → checked (entity_edge found target s e) ≡ Ok tt → o ≡ found (game_of s) e → Ok o ≡ entity_edge found target s e
+  unfolding after
+  sound_entity e None h p = sym (edge_none (game_of s) (found (game_of s)) target e (sym p))
+  sound_entity e (Some r) h p = go (transition_check e (target r) (transition_target e (game_of s).transitions)) (edge_row (game_of s) (found (game_of s)) target e r (sym p))
+    where
+      go : (f : Result Unit Refusal) → entity_edge found target s e ≡ after f (Ok (Some r)) → Ok (Some r) ≡ entity_edge found target s e
+      go (Ok x) q = sym q
+      go (Err x) q = absurd (let stops : checked (entity_edge found target s e) ≡ Err x = ap checked q in cc)
+
+  module _ (source i : ℕ) where
+    pub sound_other : None ≡ child_in source (child_row s i) → Ok None ≡ row_edge found target s source i
+    sound_other p = sym (row_other (game_of s) (found (game_of s)) target source (child_row s i) (sym p))
+
+    pub sound_own : (e : ℕ) (o : Option R) → Some e ≡ child_in source (child_row s i) → checked (row_edge found target s source i) ≡ Ok tt → o ≡ found (game_of s) e
+        → Ok o ≡ row_edge found target s source i
+    sound_own e o p h q =
+        let own = row_own (game_of s) (found (game_of s)) target source (child_row s i) e (sym p) in
+        sound_entity e o (rw own at h) q ∙ sym own
+
+  -- ---- what is left of a node's edges is what the child rows from row i on give in turn
+  pub left_by_rows : (source i : ℕ)
+      → edges_among found target s (children_left s source i) ≡ collect_from (edge_in (game_of s) (found (game_of s)) target source) (child_row s) (row_count s Children) i
+  unfolding edges_among children_left
+  left_by_rows source i = by_rows (game_of s) (found (game_of s)) target source _
+
   -- ---- all edges out of a node
   pub among_all : (source : ℕ) → edges_among found target s (children_of source (child_rows s)) ≡ edges_out found target s source
   unfolding edges_among outgoing game_of
@@ -64,6 +93,9 @@ module _ {R : Type 0} (found : Game → ℕ → Option R) (target : R → ℕ) (
 pub found_all : {A : Type 0} (a : Result (List A) Refusal) → checked a ≡ Ok tt → a ≡ Ok (found_in a)
 found_all (Ok xs) h = refl
 found_all (Err r) h = absurd cc
+
+-- What a child row gives where it has no fault.
+pub ruleset sound_rows = (sound_other, sound_own)
 
 -- What the loop for the first fault asks for, the edges one by one, and those out of a node.
 pub ruleset among = (among_none, among_on, among_stop)

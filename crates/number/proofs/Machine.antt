@@ -12,7 +12,7 @@ use lib.Ieee as K
 use lib.Ieee.{Float, inf, fin, binary64, up, down, odd, units, round, fits, sum, add, mul, below, level, lt, le, is_nan, nan_bits, of_fields, of_bits}
 use lib.Ieee.Fits.{up_pos, down_pos, round_is}
 use lib.Ieee.Exact.{HasValue, odd_sign}
-use lib.Ieee.Bits.{nan_bits_is, of_bits-to_bits}
+use lib.Ieee.Bits.{nan_bits_is, of_bits-to_bits, to_bits-of_bits}
 use lib.Ieee.Order.{drop, kept}
 use Rattle.number.specs.Number.{finite, round_to_nearest_even, overflow, signed_sum, plus, times, product_sign, positive_part, negative_part, less, at_most, is_finite, from_fields, from_bits, to_bits}
 use Rattle.number.specs.Meaning.{meaning}
@@ -86,6 +86,10 @@ meaning_to_bits (fin s m e) = rw (ulp_is (parts m e))
 pub of_meaning : (x : Float) → T (fits binary64 x) → of_bits binary64 (to_bits (meaning x)) ≡ x
 of_meaning x h = rw (← meaning_to_bits x) (of_bits-to_bits binary64 x h)
 
+-- what is written is read back
+pub from_bits_to_bits : (x : Float) → T (fits binary64 x) → from_bits (to_bits (meaning x)) ≡ meaning x
+from_bits_to_bits x h = sym (meaning_of_bits (to_bits (meaning x))) ∙ ap meaning (of_meaning x h)
+
 -- two values of f64 that are one number are one value
 pub meaning_injective : (x y : Float) → T (fits binary64 x) → T (fits binary64 y) → meaning x ≡ meaning y → x ≡ y
 meaning_injective x y h k e =
@@ -97,6 +101,12 @@ meaning_injective x y h k e =
 pub meaning_nan : (x : Float) → not (is_nan x) ≡ is_number (meaning x)
 unfolding is_nan
 meaning_nan x = grind arith
+
+-- what is read is written back, but for a NaN
+pub to_bits_from_bits : (n : ℕ) → n < 2 ^ 64 → T (is_number (from_bits n)) → to_bits (from_bits n) ≡ n
+to_bits_from_bits n h k =
+    rw (← meaning_of_bits n, ← meaning_to_bits (of_bits binary64 n))
+    (to_bits-of_bits binary64 n h (rw (meaning_nan (of_bits binary64 n), meaning_of_bits n) k))
 
 -- ---- finite numbers: what `f64::is_finite` tells, and what `f64::to_bits` and `f64::from_bits` ask, no NaN
 pub finite_float : (x : Float) → is_finite (meaning x) ≡ float_is_finite x

@@ -1,5 +1,5 @@
 -- The first refusal of a sheet, from `SheetLength` to `NonFiniteUtility`, in the order in which they are told. Definitions only.
-use Rattle.std.specs.Prelude.{ℕ, zero, suc, ◌+◌, ◌≤◌, ◌<◌, ◌≡◌, List, [], ◌∷◌, true, false, not, ◌&&◌, ◌==◌, Result, Ok}
+use Rattle.std.specs.Prelude.{ℕ, zero, suc, ◌+◌, ◌≤◌, ◌<◌, ◌≡◌, List, [], ◌∷◌, Bool, true, false, not, ◌&&◌, ltb, eqb, ◌==◌, Result, Ok}
 use Rattle.answer.specs.declared.Refusal.{Refusal}
 use Rattle.answer.specs.declared.Refusal.TheVariants.{Row}
 use Rattle.answer.specs.Checks.{◌>>◌, ensure, each, each_in}
@@ -41,6 +41,10 @@ unfoldable pub sheet_check : List ℕ → Result Unit Refusal
 sheet_check s = layout_check s >> each_in (rows_check s) check_order
 
 -- ---- words of the contracts
+
+-- whether the rows of the section of that number name an entity each; a number that no section has gives false
+unfoldable pub numbered_has_entity : ℕ → Bool
+numbered_has_entity k = ltb k 8 && not (eqb k 6)
 
 -- r is the first row of a section that is refused for its entity, or the number of rows where none is
 pub record Unrepeated (s : List ℕ) (k : Section) (r : ℕ) : Type 0 where

@@ -39,6 +39,18 @@ fn write_payoffs(words: &mut Writer<u64>, sheet: Sheet, first: usize, count: usi
     }
 }
 
+/// Writes label numbers.
+// One by one: copied at once they would ask the C library for memmove, and the archive needs only memcpy and memset of it.
+#[tactic(auto, using(text::proofs::WritingLaws::writing, crate::proofs::Words::label_steps))]
+fn write_labels(words: &mut Writer<u64>, labels: &[u64])
+    requires { Fits words.old labels.now }
+    ensures { words.new ≡ appended words.old labels.now }
+{
+    for label in labels {
+        words.push_one(*label);
+    }
+}
+
 /// Writes the path to a terminal by the labels.
 #[tactic(auto, using(text::proofs::WritingLaws::writing, crate::proofs::Words::record_parts))]
 fn write_path(words: &mut Writer<u64>, sheet: Sheet, labels: &[u64], terminal: Terminal)
@@ -51,7 +63,7 @@ fn write_path(words: &mut Writer<u64>, sheet: Sheet, labels: &[u64], terminal: T
         terminal.count as u64,
         labels.len() as u64,
     ]);
-    words.push(labels);
+    write_labels(words, labels);
     write_payoffs(words, sheet, terminal.first, terminal.count);
 }
 

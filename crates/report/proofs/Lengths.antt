@@ -43,9 +43,12 @@ unfolding terminal_line
 terminal_most None = omega arith
 terminal_most (Some e) = simp length-append (omega (arith, decimal_most e))
 
-payoff_most : (v : Number) → length (payoff_line v) ≤ 24
+pub payoff_length : (v : Number) → length (payoff_line v) ≡ 24
 unfolding payoff_line
-payoff_most v = simp length-append (omega (arith, length_hexadecimal (to_bits v)))
+payoff_length v = simp length-append (omega (arith, length_hexadecimal (to_bits v)))
+
+payoff_most : (v : Number) → length (payoff_line v) ≤ 24
+payoff_most v = omega (arith, payoff_length v)
 
 -- a number that no label has
 pub no_label : (s : List ℕ) (n : ℕ) → row_count s Labels ≤ n → label_text (game_of s) n ≡ []

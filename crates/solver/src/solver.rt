@@ -1,5 +1,5 @@
 //! The solve of a node by what it is: a decision solves its replies and a chance node its outcomes, and the remaining depth falls.
-ghost use Rattle.std.specs.Prelude.{◌≡◌, ℕ, ◌+◌, ◌<◌, ◌≤◌, true, false, Err, Some, IfOk, IfErr, length, slice_get, slice_set};
+ghost use Rattle.std.specs.Prelude.{◌≡◌, ℕ, ◌+◌, ◌^◌, ◌<◌, ◌≤◌, true, false, Err, Some, IfOk, IfErr, length, slice_get, slice_set};
 ghost use Rattle.layout.specs.Layout.{row_count, field};
 ghost use Rattle.layout.specs.declared.section.Section.TheVariants.{Nodes};
 ghost use Rattle.game.specs.declared.Kind.TheVariants as Kinds;
@@ -47,8 +47,7 @@ impl<'a> Solver<'a> {
             return Ok(row);
         }
         let kind = task.kind_in(row);
-        let kept = self.solve_kind(entity, row, kind, left - 1)?;
-        self.keep(row, kept);
+        self.solve_kind(entity, row, kind, left - 1)?;
         Ok(row)
     }
 
@@ -80,7 +79,23 @@ impl<'a> Solver<'a> {
         memo::keep(self.memo, row, kept);
     }
 
-    /// The answer of a node that is not known yet.
+    /// Keeps the answer of the node of a row, which uses answers of heights up to `deepest`.
+    #[tactic(auto, using(memo::proofs::KeptLaws::staying))]
+    fn keep_over(&mut self, row: usize, deepest: usize, play: Play) -> Kept<Play>
+        requires within { row < row_count (bytes_of self.old.task.now) Nodes }
+        requires fits { deepest + 1 < 2 ^ 64 }
+        requires right { IsRight (solved self.old.task.now) (told_of self.old.task.now) (field (bytes_of self.old.task.now) Nodes row 0) (record { height = deepest + 1; answer = play }) }
+        ensures kept { result ≡ record { height = deepest + 1; answer = play } }
+        ensures there { slice_get self.new.memo.now row ≡ Some (Some result) }
+        ensures stays { Stays self.old.memo.now self.new.memo.now }
+        ensures same_task { self.new.task ≡ self.old.task }
+    {
+        let kept = Kept::over(deepest, play);
+        self.keep(row, kept);
+        kept
+    }
+
+    /// Works out the answer of a node that is not known yet, and keeps it.
     #[cycle(solve)]
     #[tactic(auto, using(memo::proofs::KeptLaws::staying))]
     fn solve_kind(
@@ -95,23 +110,28 @@ impl<'a> Solver<'a> {
         requires kind { GoesBy self.old.task.now entity kind }
         requires low { left < 64 }
         ensures kept { IfOk result (Answered self.old.task.now (left + 1) entity) }
+        ensures there { IfOk result (λ kept. slice_get self.new.memo.now row ≡ Some (Some kept)) }
         ensures answer { solution_in self.old.task.now result ≡ solved self.old.task.now (left + 1) entity }
         ensures stays { Stays self.old.memo.now self.new.memo.now }
         ensures same_task { self.new.task ≡ self.old.task }
     {
         match kind {
-            Kind::Terminal => self.solve_terminal(entity),
+            Kind::Terminal => self.solve_terminal(entity, row),
             Kind::Decision { player } => self.solve_decision(entity, row, player, left),
             Kind::Chance => self.solve_chance(entity, row, left),
         }
     }
 
     /// A terminal is worth its payoffs.
-    fn solve_terminal(&self, entity: u32) -> Result<Kept<Play>, Refusal>
-        requires { GoesBy self.now.task.now entity Kinds.Terminal }
-        ensures kept { IfOk result (IsRight (solved self.now.task.now) (told_of self.now.task.now) entity) }
+    fn solve_terminal(&mut self, entity: u32, row: usize) -> Result<Kept<Play>, Refusal>
+        requires node { NodeAt (bytes_of self.old.task.now) row entity }
+        requires kind { GoesBy self.old.task.now entity Kinds.Terminal }
+        ensures kept { IfOk result (IsRight (solved self.old.task.now) (told_of self.old.task.now) entity) }
         ensures low { IfOk result (λ kept. kept.height ≡ 1) }
-        ensures answer { (left : ℕ) → solution_in self.now.task.now result ≡ solved self.now.task.now (left + 1) entity }
+        ensures there { IfOk result (λ kept. slice_get self.new.memo.now row ≡ Some (Some kept)) }
+        ensures answer { (left : ℕ) → solution_in self.old.task.now result ≡ solved self.old.task.now (left + 1) entity }
+        ensures stays { Stays self.old.memo.now self.new.memo.now }
+        ensures same_task { self.new.task ≡ self.old.task }
     {
         let task = self.task;
         let terminal = sheet::terminal_of(task.links.lookup, entity).ok_or(
@@ -123,7 +143,7 @@ impl<'a> Solver<'a> {
             first: None,
             payoffs,
         };
-        Ok(Kept::over(0, play))
+        Ok(self.keep_over(row, 0, play))
     }
 
     /// A decision takes the best of its replies for the player.
@@ -137,9 +157,11 @@ impl<'a> Solver<'a> {
         left: usize,
     ) -> Result<Kept<Play>, Refusal>
         requires node { NodeAt (bytes_of self.old.task.now) row entity }
+        requires unknown { IsUnknown self.old.memo.now row (left + 1) }
         requires kind { GoesBy self.old.task.now entity (Kinds.Decision player) }
         requires low { left < 64 }
         ensures kept { IfOk result (Answered self.old.task.now (left + 1) entity) }
+        ensures there { IfOk result (λ kept. slice_get self.new.memo.now row ≡ Some (Some kept)) }
         ensures answer { solution_in self.old.task.now result ≡ solved self.old.task.now (left + 1) entity }
         ensures stays { Stays self.old.memo.now self.new.memo.now }
         ensures same_task { self.new.task ≡ self.old.task }
@@ -155,7 +177,7 @@ impl<'a> Solver<'a> {
             deepest = deepest.max(kept.height);
         }
         let best = lead.ok_or(Refusal::NoOutgoingActions { entity })?;
-        Ok(Kept::over(deepest, best.taken()))
+        Ok(self.keep_over(row, deepest, best.taken()))
     }
 
     /// A chance node is worth the weighted sums of its outcomes; the plain method refuses it.
@@ -163,9 +185,11 @@ impl<'a> Solver<'a> {
     #[tactic(auto, using(memo::proofs::KeptLaws::staying))]
     fn solve_chance(&mut self, entity: u32, row: usize, left: usize) -> Result<Kept<Play>, Refusal>
         requires node { NodeAt (bytes_of self.old.task.now) row entity }
+        requires unknown { IsUnknown self.old.memo.now row (left + 1) }
         requires kind { GoesBy self.old.task.now entity Kinds.Chance }
         requires low { left < 64 }
         ensures kept { IfOk result (Answered self.old.task.now (left + 1) entity) }
+        ensures there { IfOk result (λ kept. slice_get self.new.memo.now row ≡ Some (Some kept)) }
         ensures answer { solution_in self.old.task.now result ≡ solved self.old.task.now (left + 1) entity }
         ensures stays { Stays self.old.memo.now self.new.memo.now }
         ensures same_task { self.new.task ≡ self.old.task }
@@ -192,13 +216,14 @@ impl<'a> Solver<'a> {
             first: None,
             payoffs,
         };
-        Ok(Kept::over(deepest, play))
+        Ok(self.keep_over(row, deepest, play))
     }
 
     /// The edge that the play from a node begins with, where there is one.
     #[tactic(auto, using(crate::proofs::PlayLaws::plays))]
     fn first_edge(&mut self, entity: u32) -> Option<ActionEdge>
         ensures actions { actions_at self.old.task.now entity ≡ actions_from (actions_at self.old.task.now) result }
+        ensures stays { Stays self.old.memo.now self.new.memo.now }
         ensures same_task { self.new.task ≡ self.old.task }
     {
         match self.solve_node(entity, 64) {
@@ -208,9 +233,11 @@ impl<'a> Solver<'a> {
     }
 
     /// The labels along a play that begins with an edge. Each node of it is looked up again, and its answer is known.
+    #[tactic(auto, using(memo::proofs::KeptLaws::staying))]
     fn labels(&mut self, first: Option<ActionEdge>) -> Labels
         requires { length (actions_from (actions_at self.old.task.now) first) ≤ 64 }
         ensures labels { labels_of result ≡ actions_from (actions_at self.old.task.now) first }
+        ensures stays { Stays self.old.memo.now self.new.memo.now }
         ensures same_task { self.new.task ≡ self.old.task }
     {
         let mut numbers = [0u32; 64];
@@ -228,7 +255,8 @@ impl<'a> Solver<'a> {
     /// The solution of a play.
     pub fn solution(&mut self, play: Play) -> Solution
         requires { length (actions_from (actions_at self.old.task.now) play.first) ≤ 64 }
-        ensures { solution_of result ≡ told_of self.old.task.now play }
+        ensures answer { solution_of result ≡ told_of self.old.task.now play }
+        ensures stays { Stays self.old.memo.now self.new.memo.now }
     {
         let labels = self.labels(play.first);
         let payoffs = play.payoffs.cleared();

@@ -18,7 +18,7 @@ pub solve_node-returns-clause-kept : goal.solve_node-returns-clause-kept
 solve_node-returns-clause-kept t c =
     let some = c.if-left-eq0.false in
     let same : c.args.left - 1 + 1 ≡ c.args.left = omega arith in
-    record { kept = _; here = c.keep.ensures.here; is = rw same at c.in_ok-kept.ensures.kept }
+    record { kept = _; here = c.in_ok-solve_kind.ensures.there; is = rw same at c.in_ok-solve_kind.ensures.kept }
 
 -- ---- a decision
 
@@ -75,17 +75,24 @@ solve_decision-returns-in_err-best-clause-answer t c =
     let missing = rw none at (sym c.ok_or.ensures.value ∙ c.in_err-best.was) in
     rw (p.1, p.2) (sym (no_reply _ _ _ _ None on _ c.loop-edge.invariant.low ∙ same_refusal _ _ missing))
 
+pub solve_decision-keep_over-requires-clause-right : goal.solve_decision-keep_over-requires-clause-right
+solve_decision-keep_over-requires-clause-right t c =
+    let on = rw (c.in-None.ensures.steps.0, c.ok_or.ensures.ok_part ∙ ap result_ok c.in_ok-best.was) at c.loop-edge.invariant.deciding in
+    let told = play_taken _ _ c.taken.result on.lead_is c.taken.ensures.terminal c.taken.ensures.first c.taken.ensures.payoffs in
+    rw (c.loop-edge.invariant.same_task, c.requires.node.entity)
+    (answers _ _ _ _ _ c.taken.result c.loop-edge.invariant.low (λ d h. best_reply _ _ _ _ None _ on d h ∙ ap Ok (sym told))).is_right
+
 pub solve_decision-returns-clause-kept : goal.solve_decision-returns-clause-kept
 solve_decision-returns-clause-kept t c =
     let on = rw (c.in-None.ensures.steps.0, c.ok_or.ensures.ok_part ∙ ap result_ok c.in_ok-best.was) at c.loop-edge.invariant.deciding in
     let told = play_taken _ _ c.taken.result on.lead_is c.taken.ensures.terminal c.taken.ensures.first c.taken.ensures.payoffs in
-    rw c.over.ensures (answers _ _ _ _ _ c.taken.result c.loop-edge.invariant.low (λ d h. best_reply _ _ _ _ None _ on d h ∙ ap Ok (sym told)))
+    rw c.keep_over.ensures.kept (answers _ _ _ _ _ c.taken.result c.loop-edge.invariant.low (λ d h. best_reply _ _ _ _ None _ on d h ∙ ap Ok (sym told)))
 
 pub solve_decision-returns-clause-answer : goal.solve_decision-returns-clause-answer
 solve_decision-returns-clause-answer t c =
     let on = rw (c.in-None.ensures.steps.0, c.ok_or.ensures.ok_part ∙ ap result_ok c.in_ok-best.was) at c.loop-edge.invariant.deciding in
     let told = play_taken _ _ c.taken.result on.lead_is c.taken.ensures.terminal c.taken.ensures.first c.taken.ensures.payoffs in
-    rw c.over.ensures (sym (best_reply _ _ _ _ None _ on _ c.loop-edge.invariant.low ∙ ap Ok (sym told)))
+    rw c.keep_over.ensures.kept (sym (best_reply _ _ _ _ None _ on _ c.loop-edge.invariant.low ∙ ap Ok (sym told)))
 
 -- ---- a chance node
 pub solve_chance-returns-in-Plain-clause-answer : goal.solve_chance-returns-in-Plain-clause-answer
@@ -146,12 +153,18 @@ solve_chance-returns-then-not-is_in_range-clause-answer t c =
     let on = rw (c.in-None.ensures.steps.0, c.ok_or.ensures.ok_part ∙ ap result_ok c.in_ok-payoffs.was) at c.loop-outcome.invariant.weighing in
     sym (all_outcomes _ _ _ None _ on _ c.loop-outcome.invariant.low ∙ out_of_range c.args.self.now.task.now _ _ (sym c.if-not-is_in_range.true ∙ c.is_in_range.ensures))
 
+pub solve_chance-keep_over-requires-clause-right : goal.solve_chance-keep_over-requires-clause-right
+solve_chance-keep_over-requires-clause-right t c =
+    let on = rw (c.in-None.ensures.steps.0, c.ok_or.ensures.ok_part ∙ ap result_ok c.in_ok-payoffs.was) at c.loop-outcome.invariant.weighing in
+    rw (c.loop-outcome.invariant.same_task, c.requires.node.entity)
+    (answers _ _ _ _ _ _ c.loop-outcome.invariant.low (λ d h. all_outcomes _ _ _ None _ on d h ∙ all_in_range c.args.self.now.task.now _ _ (sym c.if-not-is_in_range.false ∙ c.is_in_range.ensures))).is_right
+
 pub solve_chance-returns-clause-kept : goal.solve_chance-returns-clause-kept
 solve_chance-returns-clause-kept t c =
     let on = rw (c.in-None.ensures.steps.0, c.ok_or.ensures.ok_part ∙ ap result_ok c.in_ok-payoffs.was) at c.loop-outcome.invariant.weighing in
-    rw c.over.ensures (answers _ _ _ _ _ _ c.loop-outcome.invariant.low (λ d h. all_outcomes _ _ _ None _ on d h ∙ all_in_range c.args.self.now.task.now _ _ (sym c.if-not-is_in_range.false ∙ c.is_in_range.ensures)))
+    rw c.keep_over.ensures.kept (answers _ _ _ _ _ _ c.loop-outcome.invariant.low (λ d h. all_outcomes _ _ _ None _ on d h ∙ all_in_range c.args.self.now.task.now _ _ (sym c.if-not-is_in_range.false ∙ c.is_in_range.ensures)))
 
 pub solve_chance-returns-clause-answer : goal.solve_chance-returns-clause-answer
 solve_chance-returns-clause-answer t c =
     let on = rw (c.in-None.ensures.steps.0, c.ok_or.ensures.ok_part ∙ ap result_ok c.in_ok-payoffs.was) at c.loop-outcome.invariant.weighing in
-    rw c.over.ensures (sym (all_outcomes _ _ _ None _ on _ c.loop-outcome.invariant.low ∙ all_in_range c.args.self.now.task.now _ _ (sym c.if-not-is_in_range.false ∙ c.is_in_range.ensures)))
+    rw c.keep_over.ensures.kept (sym (all_outcomes _ _ _ None _ on _ c.loop-outcome.invariant.low ∙ all_in_range c.args.self.now.task.now _ _ (sym c.if-not-is_in_range.false ∙ c.is_in_range.ensures)))

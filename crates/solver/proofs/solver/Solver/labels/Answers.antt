@@ -1,5 +1,6 @@
 -- One more label is written, and those of the play that is left are the next node's.
 use Rattle.std.proofs.Common.{◌<◌, ◌∙◌, arith, length-set}
+use Rattle.memo.proofs.KeptLaws.{stays_then}
 use Rattle.solver.proofs.PlayLaws.{label_next, rest_next, label_room}
 use Rattle.solver.proofs.solver.Solver.labels.Goals as goal
 
@@ -12,6 +13,7 @@ loop-next-preserved c =
     let follows = rw v.same_task at c.first_edge-next.ensures.actions in
     record {
       same_task = c.first_edge-next.ensures.same_task ∙ v.same_task;
+      stays = stays_then _ _ _ v.stays c.first_edge-next.ensures.stays;
       room = omega arith;
       long = simp length-set long;
       written = (rw follows at written) ∙ label_next c.loop-next.numbers _ c.loop-next.count c.in-Some.edge.label (omega arith);

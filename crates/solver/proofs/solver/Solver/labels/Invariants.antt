@@ -1,5 +1,6 @@
 -- The labels so far, and those of the play that is left.
 use Rattle.std.proofs.Common.{◌≡◌, ◌++◌, ◌-◌, ◌≤◌, length, take, drop, replicate}
+use Rattle.memo.specs.Kept.{Stays}
 use Rattle.turns.specs.Plays.{actions_from}
 use Rattle.solver.specs.Tasks.{actions_at}
 use Rattle.solver.proofs.solver.Solver.labels.Given as goal
@@ -9,6 +10,7 @@ invariant-loop-next l =
     let rest = actions_at l.fn.self.task.now in
     record {
       same_task : l.self.task ≡ l.fn.self.task;
+      stays : Stays l.fn.self.memo.now l.self.memo.now;
       room : l.count ≤ 64;
       long : length l.numbers ≡ 64;
       written : actions_from rest l.fn.first ≡ take l.count l.numbers ++ actions_from rest l.next;
